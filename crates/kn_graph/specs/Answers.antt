@@ -4,7 +4,7 @@ use Rattle.kn_graph.specs.declared.calls.Call.{Call}
 use Rattle.kn_graph.specs.declared.calls.Call.TheVariants.{New, Copy, Clear, Same}
 use Rattle.kn_graph.specs.declared.calls.Reply.{Reply}
 use Rattle.kn_graph.specs.declared.calls.Reply.TheVariants as replies
-use Rattle.kn_graph.specs.Graph.{Ground, Graph, Object, with_local, with_birth, cell_at, IsLegalBirth}
+use Rattle.kn_graph.specs.Graph.{Ground, Graph, with_local, with_birth, cell_at, IsLegalBirth}
 
 -- what an answer has beside the call and the thread: the graph before it, the reply, the address of
 -- a birth, and the graph after it
@@ -48,9 +48,12 @@ AnswersCopy thread r s g = Writes thread r (g.local thread s) g
 abbrev pub AnswersClear : ℕ → ℕ → Answering
 AnswersClear thread r g = Writes thread r None g
 
+abbrev pub yes_or_no : Bool → Reply
+yes_or_no b = if b then replies.Yes else replies.No
+
 -- whether both locals are null or hold the same object
 pub record AnswersSame (thread r s : ℕ) (g : Graph) (reply : Reply) (address : ℕ) (g' : Graph) : Type 0 where
-  pub reply_is : reply ≡ (if is_same (g.local thread r) (g.local thread s) then replies.Yes else replies.No)
+  pub reply_is : reply ≡ yes_or_no (is_same (g.local thread r) (g.local thread s))
   pub nowhere : address ≡ 0
   pub unchanged : g' ≡ g
 

@@ -1,5 +1,5 @@
 -- The graph that never frees: objects in order of birth, and the locals of each thread.
-use Rattle.std.specs.Prelude.{◌≡◌, ℕ, ◌+◌, ◌<◌, ◌≤◌, ◌==◌, ◌&&◌, Option, Some, None, List, [], length, if◌then◌else◌, slice_get, MatchOption}
+use Rattle.std.specs.Prelude.{◌≡◌, ℕ, ◌+◌, ◌<◌, ◌==◌, Option, Some, None, List, if◌then◌else◌, slice_get}
 use Rattle.kn_base.specs.declared.numbers.Span.{Span}
 use Rattle.kn_base.specs.declared.heap.Sizes.{Sizes}
 use Rattle.kn_base.specs.Spans.{LiesIn, AreApart}

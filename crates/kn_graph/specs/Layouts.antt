@@ -1,5 +1,5 @@
 -- Layouts, and the sizes of cells.
-use Rattle.std.specs.Prelude.{ℕ, ◌+◌, ◌≤◌, List, length, max}
+use Rattle.std.specs.Prelude.{ℕ, ◌+◌, ◌≤◌, length, max}
 use Rattle.kn_graph.specs.declared.layouts.Layout.{Layout}
 use Rattle.kn_graph.specs.declared.layouts.Layout.TheVariants.{Fields, Array}
 

@@ -1,5 +1,5 @@
 -- What of a history belongs to one caller, and when a thread's log is complete.
-use Rattle.std.specs.Prelude.{◌≡◌, ℕ, ◌<◌, ◌==◌, Bool, true, false, Option, Some, None, List, [], ◌∷◌, ◌++◌, length, filter, option_to_list, slice_get}
+use Rattle.std.specs.Prelude.{◌≡◌, ℕ, ◌==◌, Some, List, [], ◌∷◌, filter, slice_get}
 use Rattle.std.specs.List.{flat_map}
 use Rattle.kn_base.specs.declared.numbers.Span.{Span}
 use Rattle.kn_graph.specs.declared.calls.Call.{Call}

@@ -1,5 +1,5 @@
 -- Which arguments a call may have.
-use Rattle.std.specs.Prelude.{◌≡◌, ℕ, ◌<◌, Option, Some, None, slice_get}
+use Rattle.std.specs.Prelude.{ℕ, ◌<◌, Option, Some, None, slice_get}
 use Rattle.kn_graph.specs.declared.layouts.Layout.{Layout}
 use Rattle.kn_graph.specs.declared.layouts.Layout.TheVariants.{Fields, Array}
 use Rattle.kn_graph.specs.declared.calls.Call.{Call}

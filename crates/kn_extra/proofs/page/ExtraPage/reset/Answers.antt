@@ -1,0 +1,24 @@
+use Rattle.std.proofs.Common.{All, sym, subst, arith}
+use Rattle.kn_base.specs.Spans.{LiesIn}
+use Rattle.kn_extra.specs.ExtraState.{ExtraState, extra_cell_words}
+use Rattle.kn_ranges.specs.Cells.{LeavesWholeCells}
+use Rattle.kn_ranges.proofs.CellLists.{cells_left}
+use Rattle.kn_extra.proofs.page.ExtraPage.reset.Goals as goal
+
+pub refill-requires-clause-room : goal.refill-requires-clause-room
+refill-requires-clause-room c =
+    let p = c.self.inside in
+    let spans = c.args.free.now.spans in
+    let within = subst (λ (s : ExtraState). All (λ span. LiesIn span s.frame) spans) (sym c.self.view_is) c.requires.within in
+    let whole = subst (λ (s : ExtraState). LeavesWholeCells s.frame extra_cell_words spans) (sym c.self.view_is) c.requires.cells in
+    let left = cells_left 0 _ p.frame extra_cell_words spans (omega arith) c.spans.ensures.free_list within whole in
+    rw c.spans.ensures.spans (omega (arith, left.2, c.self.invariant.room))
+
+pub invariant_of-self : goal.invariant_of-self
+invariant_of-self c =
+    let p = c.self.inside in
+    let spans = c.args.free.now.spans in
+    let within = subst (λ (s : ExtraState). All (λ span. LiesIn span s.frame) spans) (sym c.self.view_is) c.requires.within in
+    let whole = subst (λ (s : ExtraState). LeavesWholeCells s.frame extra_cell_words spans) (sym c.self.view_is) c.requires.cells in
+    let left = cells_left 0 _ p.frame extra_cell_words spans (omega arith) c.spans.ensures.free_list within whole in
+    rw (c.refill.ensures, c.spans.ensures.spans) (record { span = c.self.invariant.span; list = left.0; cells = left.1; room = c.self.invariant.room })

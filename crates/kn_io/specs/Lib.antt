@@ -1,0 +1,6 @@
+pub mod Counts
+pub mod Told
+pub mod CallLog
+pub mod States
+pub mod Ends
+pub mod StdDevices

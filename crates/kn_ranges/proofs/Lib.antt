@@ -1,0 +1,8 @@
+pub mod Apart
+pub mod Taking
+pub mod Putting
+pub mod FreeWords
+pub mod Places
+pub mod Each
+pub mod Words
+pub mod CellLists

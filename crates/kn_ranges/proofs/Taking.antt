@@ -1,0 +1,175 @@
+-- The first span that fits, and the spans without the words of a cell.
+use Rattle.std.proofs.Common.{ℕ, ◌+◌, ◌-◌, ◌<◌, ◌≤◌, ◌≡◌, ◌⊎◌, ◌↔◌, List, [], ◌∷◌, ◌++◌, Some, None, All, IsNone, length, take, drop, slice_index_or, subst, min, max, refl, ap, sym, ◌∙◌, inl, inr, arith}
+use Rattle.std.specs.List.{AllByRecursion, HoldsAt}
+use Rattle.std.specs.Option.{is_some, option_map}
+use Rattle.std.proofs.lemmas.Bool.{lt-ltb, le-ltb, le-leb, lt-leb, cases_lt, true≢false}
+use Rattle.std.proofs.lemmas.Grind.{flat_map-append}
+use Rattle.std.proofs.lemmas.List.{length-append}
+use Rattle.std.proofs.lemmas.Option.{none-some, same_Some}
+use Rattle.std.proofs.lemmas.List.Elements.{All-from_recursion, recursion_from_All}
+use Rattle.kn_base.specs.declared.numbers.Span.{Span}
+use Rattle.kn_base.specs.Spans.{end_of, AreApart}
+use Rattle.kn_ranges.specs.SpanLists.{StandApart, first_fit, front_of, span_without, spans_from, without, words_between}
+use Rattle.kn_ranges.proofs.Apart.{apart_append, apart_within_wider, apart_before, apart_behind, begins_behind, ends_before, split_at}
+
+-- no words lie between a place and one that is not behind it
+pub words_between_none : (low high : ℕ) → high ≤ low → words_between low high ≡ []
+words_between_none low high h = rw (le-ltb low high h)
+
+-- the words of a span lie between its ends
+pub words_between_ends : (low high : ℕ) (span : Span) → low ≡ span.start → high ≡ end_of span → 0 < span.len → words_between low high ≡ span ∷ []
+words_between_ends low high span p q h =
+    let lt : low < high = omega arith in
+    let len : high - span.start ≡ span.len = omega arith in
+    rw (lt-ltb low high lt, p) (ap (λ n. record { start = span.start; len = n } ∷ []) len)
+
+-- the words between two places stand apart within them
+pub apart_between : (low high : ℕ) → StandApart low (high + 1) (words_between low high)
+apart_between low high =
+    elim (cases_lt low high) [
+      | inl h ↦ rw (lt-ltb low high h) (omega arith, omega arith, omega arith, tt)
+      | inr h ↦ rw (words_between_none low high h) tt
+    ]
+
+-- a span that the cell leaves out stays whole
+pub span_without_apart : (cell span : Span) → 0 < span.len → AreApart cell span → span_without cell span ≡ span ∷ []
+span_without_apart cell span h (inl p) =
+    rw (words_between_none span.start (min (end_of span) cell.start) (omega arith)) (words_between_ends (max span.start (end_of cell)) (end_of span) span (omega arith) refl h)
+span_without_apart cell span h (inr p) =
+    rw (words_between_none (max span.start (end_of cell)) (end_of span) (omega arith), words_between_ends span.start (min (end_of span) cell.start) span refl (omega arith) h)
+
+-- without its first n words, a span is the words behind them
+pub span_without_front : (n : ℕ) (span : Span) → n ≤ span.len → span_without (front_of n span) span ≡ words_between (span.start + n) (end_of span)
+span_without_front n span h =
+    rw (words_between_none span.start (min (end_of span) span.start) (omega arith))
+    (ap (λ low. words_between low (end_of span)) (let e : max span.start (span.start + n) ≡ span.start + n = omega arith in e))
+
+-- a cell that is apart from each span leaves the list as it is
+pub without-apart : (cell : Span) (spans : List Span) → AllByRecursion (λ span. (0 < span.len) × AreApart cell span) spans → without cell spans ≡ spans
+without-apart cell [] a = refl
+without-apart cell (s ∷ spans) a = rw (span_without_apart cell s a.0.0 a.0.1) (ap (λ z. s ∷ z) (without-apart cell spans a.1))
+
+-- the spans that end before a place are apart from a cell at it, and those that begin behind it are, too
+apart_from_before : (place : ℕ) (cell : Span) (spans : List Span) → place ≤ cell.start → AllByRecursion (λ span. (0 < span.len) × (end_of span < place)) spans → AllByRecursion (λ span. (0 < span.len) × AreApart cell span) spans
+apart_from_before place cell [] h a = tt
+apart_from_before place cell (s ∷ spans) h a = ((a.0.0, inr (omega (arith, a.0.1))), apart_from_before place cell spans h a.1)
+
+apart_from_behind : (place : ℕ) (cell : Span) (spans : List Span) → end_of cell ≤ place → AllByRecursion (λ span. (0 < span.len) × (place ≤ span.start)) spans → AllByRecursion (λ span. (0 < span.len) × AreApart cell span) spans
+apart_from_behind place cell [] h a = tt
+apart_from_behind place cell (s ∷ spans) h a = ((a.0.0, inl (omega (arith, a.0.1))), apart_from_behind place cell spans h a.1)
+
+-- without the first n words of one span the others stay
+pub without-front : (low high n : ℕ) (front : List Span) (span : Span) (back : List Span) → StandApart low high (front ++ span ∷ back) → n ≤ span.len → without (front_of n span) (front ++ span ∷ back) ≡ front ++ (words_between (span.start + n) (end_of span) ++ back)
+without-front low high n front span back a h =
+    let cell : Span = front_of n span in
+    let before = without-apart cell front (apart_from_before span.start cell front (omega arith) (ends_before low span.start front (apart_before low high front span back a))) in
+    let behind = without-apart cell back (apart_from_behind (end_of span + 1) cell back (omega arith) (begins_behind (end_of span + 1) high back (apart_behind low high front span back a))) in
+    flat_map-append (span_without cell) front (span ∷ back) ∙ rw (before, behind, span_without_front n span h) refl
+
+-- without the first n words of one span there are no more spans than before
+pub length-front : (front : List Span) (span : Span) (back : List Span) (low high : ℕ) → length (front ++ (words_between low high ++ back)) ≤ length (front ++ span ∷ back)
+length-front front span back low high =
+    let few : length (words_between low high) ≤ 1 = elim (cases_lt low high) [ inl h ↦ rw (lt-ltb low high h) (omega arith) | inr h ↦ rw (le-ltb low high h) (omega arith) ] in
+    omega (arith, length-append front (words_between low high ++ back), length-append (words_between low high) back, length-append front (span ∷ back))
+
+-- a span without a cell stands apart within the span's bounds
+apart_span_without : (cell span : Span) → 0 < cell.len → StandApart span.start (end_of span + 1) (span_without cell span)
+apart_span_without cell span h =
+    let middle = max span.start (min (end_of span) cell.start + 1) in
+    let before = words_between span.start (min (end_of span) cell.start) in
+    let behind = words_between (max span.start (end_of cell)) (end_of span) in
+    apart_append span.start middle (end_of span + 1) before behind (omega arith) (omega arith)
+    (apart_within_wider span.start (min (end_of span) cell.start + 1) span.start middle before (omega arith) (omega arith) (apart_between span.start (min (end_of span) cell.start)))
+    (apart_within_wider (max span.start (end_of cell)) (end_of span + 1) middle (end_of span + 1) behind (omega arith) (omega arith) (apart_between (max span.start (end_of cell)) (end_of span)))
+
+-- spans without a cell stand apart
+pub apart_without : (low high : ℕ) (cell : Span) (spans : List Span) → 0 < cell.len → StandApart low high spans → StandApart low high (without cell spans)
+apart_without low high cell [] h a = tt
+apart_without low high cell (s ∷ spans) h a =
+    apart_append low (end_of s + 1) high (span_without cell s) (without cell spans) (omega (arith, a.0)) (omega (arith, a.2))
+    (apart_within_wider s.start (end_of s + 1) low (end_of s + 1) (span_without cell s) a.0 (omega arith) (apart_span_without cell s h))
+    (apart_without (end_of s + 1) high cell spans h a.3)
+
+-- the first fit stands behind spans that are too short
+pub first_fit-at : (n : ℕ) (front : List Span) (span : Span) (back : List Span) → AllByRecursion (λ s. s.len < n) front → n ≤ span.len → first_fit n (front ++ span ∷ back) ≡ Some span
+first_fit-at n [] span back a h = rw (le-leb n span.len h)
+first_fit-at n (s ∷ front) span back a h = rw (lt-leb n s.len a.0) (first_fit-at n front span back a.1 h)
+
+-- no span fits where each is too short
+pub first_fit-none : (n : ℕ) (spans : List Span) → AllByRecursion (λ s. s.len < n) spans → first_fit n spans ≡ None
+first_fit-none n [] a = refl
+first_fit-none n (s ∷ spans) a = rw (lt-leb n s.len a.0) (first_fit-none n spans a.1)
+
+-- each span is too short, or one is the first fit
+pub first_fit_cases : (n : ℕ) (spans : List Span) → AllByRecursion (λ s. s.len < n) spans ⊎ ((front : List Span) × (span : Span) × (back : List Span) × (spans ≡ front ++ span ∷ back) × AllByRecursion (λ s. s.len < n) front × (n ≤ span.len))
+first_fit_cases n [] = inl tt
+first_fit_cases n (s ∷ spans) =
+    elim (cases_lt s.len n) [
+      | inr h ↦ inr ([], s, spans, refl, tt, h)
+      | inl h ↦ elim (first_fit_cases n spans) [
+        | inl a ↦ inl (h, a)
+        | inr w ↦ inr (s ∷ w.0, w.1, w.2, ap (λ z. s ∷ z) w.3, (h, w.4), w.5)
+      ]
+    ]
+
+-- there is no first fit exactly where each span is too short
+pub first_fit-is_none : (n : ℕ) (spans : List Span) → IsNone (option_map (front_of n) (first_fit n spans)) ↔ All (λ span. span.len < n) spans
+first_fit-is_none n spans =
+    let P : Span → Type 0 = λ span. span.len < n in (
+      λ none. elim (first_fit_cases n spans) [
+        | inl short ↦ All-from_recursion P spans short
+        | inr w ↦
+            let e : first_fit n spans ≡ Some w.1 = rw w.3 (first_fit-at n w.0 w.1 w.2 w.4 w.5) in
+            absurd (true≢false (ap (λ o. is_some (option_map (front_of n) o)) (sym e) ∙ none))
+      ],
+      λ short. ap (λ o. is_some (option_map (front_of n) o)) (first_fit-none n spans (recursion_from_All P spans short)),
+    )
+
+-- all spans begin at or after address 0
+pub spans_from-zero : (spans : List Span) → spans_from 0 spans ≡ spans
+spans_from-zero [] = refl
+spans_from-zero (s ∷ spans) = rw (le-leb 0 s.start (omega arith)) (ap (λ z. s ∷ z) (spans_from-zero spans))
+
+-- the first fit from an address on stands behind spans that begin before it or are too short
+pub first_fit-from_at : (low n : ℕ) (front : List Span) (span : Span) (back : List Span) → AllByRecursion (λ s. (s.start < low) ⊎ (s.len < n)) front → low ≤ span.start → n ≤ span.len → first_fit n (spans_from low (front ++ span ∷ back)) ≡ Some span
+first_fit-from_at low n [] span back a p q = rw (le-leb low span.start p, le-leb n span.len q)
+first_fit-from_at low n (s ∷ front) span back a p q =
+    elim (cases_lt s.start low) [
+      | inl h ↦ rw (lt-leb low s.start h) (first_fit-from_at low n front span back a.1 p q)
+      | inr h ↦ rw (le-leb low s.start h, lt-leb n s.len (elim a.0 as (λ _. s.len < n) [ inl b ↦ absurd (omega arith) | inr b ↦ b ])) (first_fit-from_at low n front span back a.1 p q)
+    ]
+
+-- from an address on each span is too short where each of all begins before it or is too short
+pub too_short_from : (low n : ℕ) (spans : List Span) → AllByRecursion (λ s. (s.start < low) ⊎ (s.len < n)) spans → AllByRecursion (λ s. s.len < n) (spans_from low spans)
+too_short_from low n [] a = tt
+too_short_from low n (s ∷ spans) a =
+    elim (cases_lt s.start low) [
+      | inl h ↦ rw (lt-leb low s.start h) (too_short_from low n spans a.1)
+      | inr h ↦ rw (le-leb low s.start h) (elim a.0 as (λ _. s.len < n) [ inl b ↦ absurd (omega arith) | inr b ↦ b ], too_short_from low n spans a.1)
+    ]
+
+-- the first fit from an address on, and the spans without its first n words, by its place
+pub taken_at : (low high from n : ℕ) (spans : List Span) (place : ℕ) (d : Span) → StandApart low high spans → place < length spans → AllByRecursion (λ s. (s.start < from) ⊎ (s.len < n)) (take place spans) → HoldsAt (λ span. (from ≤ span.start) × (n ≤ span.len)) spans place
+    → (first_fit n (spans_from from spans) ≡ Some (slice_index_or spans place d))
+    × (without (front_of n (slice_index_or spans place d)) spans ≡ take place spans ++ (words_between ((slice_index_or spans place d).start + n) (end_of (slice_index_or spans place d)) ++ drop (place + 1) spans))
+taken_at low high from n spans place d a within passed fits =
+    let span = slice_index_or spans place d in
+    let front = take place spans in
+    let back = drop (place + 1) spans in
+    let split : spans ≡ front ++ span ∷ back = split_at spans place d within in
+    let fit = fits d in
+    let apart : StandApart low high (front ++ span ∷ back) = subst (StandApart low high) split a in (
+      ap (λ xs. first_fit n (spans_from from xs)) split ∙ first_fit-from_at from n front span back passed fit.0 fit.1,
+      ap (without (front_of n span)) split ∙ without-front low high n front span back apart fit.1,
+    )
+
+-- where the front of a first fit is taken, the list is the spans before it, itself and those behind it
+pub taken_from : (n : ℕ) (spans : List Span) (cell : Span) → Some cell ≡ option_map (front_of n) (first_fit n spans)
+    → (front : List Span) × (span : Span) × (back : List Span) × (spans ≡ front ++ span ∷ back) × (n ≤ span.len) × (cell ≡ front_of n span)
+taken_from n spans cell e =
+    elim (first_fit_cases n spans) [
+      | inl short ↦ absurd (none-some cell (sym (e ∙ ap (option_map (front_of n)) (first_fit-none n spans short))))
+      | inr w ↦
+          let fit : first_fit n spans ≡ Some w.1 = rw w.3 (first_fit-at n w.0 w.1 w.2 w.4 w.5) in
+          (w.0, w.1, w.2, w.3, w.5, same_Some cell (front_of n w.1) (e ∙ ap (option_map (front_of n)) fit))
+    ]

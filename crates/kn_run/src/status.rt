@@ -1,0 +1,35 @@
+ghost use Rattle.std.specs.Prelude.{◌≡◌};
+ghost use Rattle.kn_run.specs.Numbers.{status_number};
+
+/// How a call of the program ended.
+#[derive(Clone, Copy, Debug, PartialEq, Eq)]
+pub enum Status {
+    /// The whole report was written.
+    Ok,
+    /// The words are none of the forms.
+    Usage,
+    /// The bytes are the text of no script.
+    Script,
+    /// The source failed.
+    ReadFault,
+    /// The sink failed.
+    WriteFault,
+    /// Memory ran out.
+    Memory,
+}
+
+impl Status {
+    /// The exit number of the program.
+    pub fn number(&self) -> u8
+        ensures { result ≡ status_number self.now }
+    {
+        match self {
+            Status::Ok => 0,
+            Status::Usage => 1,
+            Status::Script => 2,
+            Status::ReadFault => 4,
+            Status::WriteFault => 5,
+            Status::Memory => 6,
+        }
+    }
+}

@@ -1,0 +1,14 @@
+use Rattle.std.proofs.Common.{◌-◌, length, arith}
+use Rattle.kn_script.proofs.PieceLemmas.{without_return-at, without_return-without, without_return-none}
+use Rattle.kn_script.proofs.lines.strip_return.Goals as goal
+use Rattle.kn_script.proofs.lines.strip_return.Goals.{else-end-gt0-via-then-end-gt0+else-line-end-eq13, else-end-gt0-via-else-end-gt0}
+
+pub returns-then-line-end-eq13 : goal.returns-then-line-end-eq13
+returns-then-line-end-eq13 c = without_return-at c.args.line.now (length c.args.line.now - 1) (omega arith) c.if-line-end-eq13.true
+
+pub returns-else-end-gt0 : goal.returns-else-end-gt0
+returns-else-end-gt0 c =
+    elim c.else-end-gt0.branch [
+      | else-end-gt0-via-then-end-gt0+else-line-end-eq13 w ↦ without_return-without c.args.line.now (length c.args.line.now - 1) (omega arith) w.if-line-end-eq13.false
+      | else-end-gt0-via-else-end-gt0 w ↦ without_return-none c.args.line.now (omega arith)
+    ]

@@ -1,0 +1,44 @@
+use Rattle.std.proofs.Common.{◌≡◌, Some, IfSome, is_some, ap, subst, sym, ◌∙◌, refl, inl, inr, arith}
+use Rattle.std.proofs.lemmas.Bool.{true≢false}
+use Rattle.kn_ranges.specs.SpanLists.{front_of}
+use Rattle.kn_single.specs.SingleState.{SingleState, HasTakenCell, IsTakenCell, words_behind}
+use Rattle.kn_single.proofs.Behind.{whole_without_cell, front_taken}
+use Rattle.kn_single.proofs.page.SinglePage.take.Goals as goal
+
+-- no cell was taken before
+no_cell : (c : goal.After-take_first) → HasTakenCell c.args.self.now → ⊥
+no_cell c has = true≢false (sym (c.has_cell.ensures.1 has) ∙ c.if-has_cell.false)
+
+-- the cell is the frame's front, and the words behind it are free
+front : (c : goal.After-take_first) → (c.take_first.result ≡ Some (front_of c.args.n c.self.inside.frame)) × (c.take_first.new.self.spans ≡ words_behind c.args.n c.self.inside.frame) × (c.take_first.new.self.room ≡ c.self.inside.free.room)
+front c =
+    let page : SingleState = record { frame = c.self.inside.frame; spans = c.self.inside.free.spans } in
+    let whole = whole_without_cell page c.self.invariant.0.0 c.self.invariant.1 (λ has. no_cell c (subst HasTakenCell c.self.view_is has)) in
+    front_taken c.args.n c.self.inside.frame c.self.inside.free c.take_first.new.self c.take_first.result whole c.if-n-self.false c.take_first.ensures.taken c.take_first.ensures.after
+
+pub invariant_of-self : goal.invariant_of-self
+invariant_of-self c = let w = front c in (c.self.invariant.0, (c.args.n, c.if-n-self.false, w.1), omega (arith, w.2, c.self.invariant.2))
+
+pub returns-clause-none : goal.returns-clause-none
+returns-clause-none c =
+    let w = front c in
+    let frame = ap (λ page. page.frame) c.self.view_is in (
+      λ none. absurd (true≢false (sym (ap is_some w.0) ∙ none)),
+      λ cause. elim cause [
+        | inl has ↦ absurd (no_cell c has)
+        | inr less ↦ absurd (omega (arith, c.if-n-self.false, ap (λ span. span.len) frame))
+      ],
+    )
+
+pub returns-clause-taken : goal.returns-clause-taken
+returns-clause-taken c =
+    let w = front c in
+    let frame = ap (λ page. page.frame) c.self.view_is in
+    subst (λ found. IfSome found (λ cell. cell ≡ front_of c.args.n c.args.self.now.frame)) (sym w.0) (ap (front_of c.args.n) frame)
+
+pub returns-clause-cell : goal.returns-clause-cell
+returns-clause-cell c =
+    let w = front c in
+    let after : SingleState = record { frame = c.self.inside.frame; spans = c.take_first.new.self.spans } in
+    subst (λ found. IfSome found (IsTakenCell after)) (sym w.0)
+    (record { at_start = refl; not_empty = c.requires; within = c.if-n-self.false; rest_is_free = w.1 })
