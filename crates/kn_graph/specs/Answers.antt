@@ -24,13 +24,13 @@ pub record IsBorn (z : Ground) (thread r layout n : ℕ) (g : Graph) (reply : Re
   pub legal : IsLegalBirth z g (cell_at z address layout n)
   pub after : g' ≡ with_birth g thread r (record { address = address; layout = layout; length = n })
 
--- there was no room: nothing is changed
+-- no cell is made, and nothing is changed
 pub record IsFull (g : Graph) (reply : Reply) (address : ℕ) (g' : Graph) : Type 0 where
   pub reply_is : reply ≡ replies.Full
   pub nowhere : address ≡ 0
   pub unchanged : g' ≡ g
 
--- a birth happens, or there was no room; the model allows `full` at every birth
+-- a birth happens, or none does; the model allows `full` at every birth
 abbrev pub AnswersNew : Ground → ℕ → ℕ → ℕ → ℕ → Answering
 AnswersNew z thread r layout n g reply address g' = IsBorn z thread r layout n g reply address g' ⊎ IsFull g reply address g'
 

@@ -12,7 +12,7 @@ pub record Ground : Type 0 where
   pub sizes : Sizes
   pub layouts : List Layout
 
--- an object: the address of its first word, the number of its layout, and its length
+-- an object: the address of its first word, the number of its layout, and its length, which is 0 for a list of fields
 pub record Object : Type 0 where
   pub address : ℕ
   pub layout : ℕ

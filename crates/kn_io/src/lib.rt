@@ -1,6 +1,6 @@
 //! Bytes in and out of a run: where they come from, where they go, and how often a device failed.
 //!
-//! A source tells which bytes are left and a sink which bytes it holds, or neither does. Each has a
+//! A source may tell which bytes are left, and a sink which bytes it holds. Each has a
 //! count of faults that never falls. A call answers that the device failed only where that count
 //! rose, or stands at its last value.
 #![tactic(auto)]

@@ -37,11 +37,6 @@ pub apart_behind : (low high : ℕ) (front : List Span) (span : Span) (back : Li
 apart_behind low high [] span back a = a.3
 apart_behind low high (s ∷ front) span back a = apart_behind (end_of s + 1) high front span back a.3
 
--- the front of a list stands apart
-pub apart_front : (low high : ℕ) (front back : List Span) → StandApart low high (front ++ back) → StandApart low high front
-apart_front low high [] back a = tt
-apart_front low high (s ∷ front) back a = (a.0, a.1, a.2, apart_front (end_of s + 1) high front back a.3)
-
 -- each span before a place has a word and ends before the place
 pub ends_before : (low high : ℕ) (spans : List Span) → StandApart low high spans → AllByRecursion (λ span. (0 < span.len) × (end_of span < high)) spans
 ends_before low high [] a = tt

@@ -126,10 +126,6 @@ on_cells_from_whole frame words spans apart whole =
         let e : cell.start ≡ end_of span = elim apart as (λ _. cell.start ≡ end_of span) [ inl p ↦ absurd (omega (arith, has.0, has.1)) | inr p ↦ omega (arith, has.0) ] in
         subst (IsCellBound frame words) e bound
 
--- a frame whose words are all free
-pub whole_frame : (frame : Span) (words : ℕ) → 0 < frame.len → IsFreeListOf frame (frame ∷ []) × AllByRecursion (IsOnCells frame words) (frame ∷ [])
-whole_frame frame words some = ((omega arith, some, omega arith, tt), (((0, omega arith), inr refl), tt))
-
 -- the first cell of the first span that has room for one, and what is left without it
 pub cell_taken : (frame : Span) (words : ℕ) (spans : List Span) (cell : Span) → 0 < words → IsFreeListOf frame spans → AllByRecursion (IsOnCells frame words) spans → Some cell ≡ option_map (front_of words) (first_fit words spans)
     → IsFreeListOf frame (without cell spans) × AllByRecursion (IsOnCells frame words) (without cell spans) × IsTakenCell frame words (without cell spans) cell

@@ -24,7 +24,7 @@ use Rattle.kn_graph.specs.Answers.{is_same, yes_or_no}
 use Rattle.kn_graph.specs.Histories.{Leads, Follows}
 use Rattle.kn_graph.specs.Logs.{births_of, cell_in, log_of, calls_of}
 use Rattle.kn_run.specs.Kept.{Kept}
-use Rattle.kn_run.proofs.RoomLemmas.{is_room}
+use Rattle.kn_run.proofs.RoomLemmas.{is_room, least_room, no_room}
 use Rattle.kn_run.specs.Rooms.{room_at, ArePlaced, EventIsPlaced, free_after, behind}
 use Rattle.kn_run.specs.Stands.{StandsFor, Stands, call_entry}
 
@@ -178,10 +178,10 @@ compared z r s reply kept threads small small' e (g, stands) = (
       refl refl stands.width stands.locals,
 )
 
-pub refused : (z : Ground) (r layout : ℕ) (kept : Kept) → 0 < z.sizes.threads → r < 16 → IsFieldsLayout (slice_get z.layouts layout) →
+pub refused : (z : Ground) (r layout : ℕ) (kept : Kept) → 0 < z.sizes.threads → 32 ≤ z.sizes.small_words → 2 ≤ (cell_at z 0 layout 0).len → r < 16 → IsFieldsLayout (slice_get z.layouts layout) →
     room_at z.sizes kept.free (cell_at z 0 layout 0).len ≡ None → Stands z kept →
     Stands z (record kept { history = kept.history ++ call_entry (New r layout) replies.Full 0 ∷ [] })
-refused z r layout kept threads small fields no_room (g, stands) = (
+refused z r layout kept threads wide long small fields is_full (g, stands) = (
   g,
   writes z (call_entry (New r layout) replies.Full 0) kept kept.locals g g stands
       (record {
@@ -190,7 +190,10 @@ refused z r layout kept threads small fields no_room (g, stands) = (
         in_range = (small, fields);
         answer = inr (record { reply_is = refl; nowhere = refl; unchanged = refl });
       })
-      (record { none = refl; placed = rw no_room refl })
+      (record {
+        none = refl;
+        placed = inr (refl, no_room z.sizes kept.free (cell_at z 0 layout 0).len wide (omega (arith, stands.few)) (omega arith) is_full);
+      })
       refl refl stands.width stands.locals,
 )
 
@@ -218,7 +221,8 @@ pub given_birth : (z : Ground) (r layout room : ℕ) (kept : Kept) → 0 < z.siz
     })
 given_birth z r layout room kept threads wide long small fields has_room (g, stands) =
     let new : Object = record { address = room; layout = layout; length = 0 } in
-    let is = is_room z.sizes kept.free (cell_at z 0 layout 0).len room wide (omega (arith, stands.few)) has_room in (
+    let least = least_room z.sizes kept.free (cell_at z 0 layout 0).len room wide (omega (arith, stands.few)) has_room in
+    let is = is_room z.sizes kept.free (cell_at z 0 layout 0).len room least.0 in (
       with_birth g 0 r new,
       goes_on z (call_entry (New r layout) replies.Ok room) kept _ g (with_birth g 0 r new) stands (record {
         follows = record {
@@ -231,7 +235,7 @@ given_birth z r layout room kept threads wide long small fields has_room (g, sta
             after = refl;
           });
         };
-        placed = rw has_room (refl, refl);
+        placed = inl (refl, least.0, least.1);
         history = refl;
         born = refl;
         free = refl;
@@ -314,7 +318,7 @@ birth_stands_at : (z : Ground) (r number n : ℕ) (kept kept' : Kept) {T E : Typ
     (room_at z.sizes kept.free n ≡ None) ⊎ ((room : ℕ) × (room_at z.sizes kept.free n ≡ Some room)) → OnOk result (Stands z kept')
 birth_stands_at z r number n kept kept' result may is stands (inl none) = on_ok_weaker result
     (λ (e : kept' ≡ record kept { history = kept.history ++ call_entry (New r number) replies.Full 0 ∷ [] }). subst (Stands z) (sym e)
-    (refused z r number kept may.threads may.local may.fields (ap (room_at z.sizes kept.free) may.words ∙ none) stands)) (is.full none)
+    (refused z r number kept may.threads may.wide (subst (λ (m : ℕ). 2 ≤ m) (sym may.words) may.long) may.local may.fields (ap (room_at z.sizes kept.free) may.words ∙ none) stands)) (is.full none)
 birth_stands_at z r number n kept kept' result may is stands (inr (room, some)) = on_ok_weaker result
     (λ (e : kept' ≡ born_kept z r number n room kept). subst (Stands z) (sym e)
     (subst (λ (m : ℕ). Stands z (born_kept z r number m room kept)) may.words

@@ -3,10 +3,10 @@ use Rattle.std.specs.Prelude.{◌≡◌, ◌≢◌, ℕ, ◌≤◌, ◌⊎◌, �
 use Rattle.kn_io.specs.Counts.{Rose, NeverFalls}
 use Rattle.kn_io.specs.Told.{GivesAll, GivesSome, Appends, AppendsPrefix}
 use Rattle.kn_script.specs.Scripts.{Scripted}
-use Rattle.kn_script.specs.Grammar.{IsText}
+use Rattle.kn_script.specs.Grammar.{IsText, longest_text}
 use Rattle.kn_run.specs.declared.status.Status.{Status}
 use Rattle.kn_run.specs.declared.status.Status.TheVariants as ends
-use Rattle.kn_run.specs.Kept.{Left}
+use Rattle.kn_run.specs.Kept.{RunRecord}
 use Rattle.kn_run.specs.Runs.{IsRunOf}
 use Rattle.kn_run.specs.Reports.{line, report_text}
 
@@ -42,40 +42,42 @@ WritesLine text old new = Writes (line text) old.held new.held old.sink_faults n
 abbrev pub WritesNothing : Devices → Devices → Type 0
 WritesNothing old new = new.held ≡ old.held
 
--- a good script with one thread was read: the bytes that the source had left, where told, were read to
--- their end and are its text
+-- a script was read: the bytes that the source had left, where told, were read to their end and are its text
 pub record IsRead (script : Scripted) (left left' : Option (List ℕ)) : Type 0 where
   pub bytes : List ℕ
   pub given : GivesAll left left' bytes
   pub text : IsText script bytes
 
--- no script was read: the source's count of faults rose, or, where told, the bytes are no script and
--- were read to the end or past the greatest length
+-- the bytes that the source had left, where told, are no script, and were read to their end where they are
+-- not too many for one
+abbrev pub IsRefused : Option (List ℕ) → Option (List ℕ) → Type 0
+IsRefused left left' = IfSome left (λ bytes. IsNoText bytes × (length bytes ≤ longest_text → left' ≡ Some []))
+
+-- no script was read, by the status: the source's count of faults rose, the bytes are refused, or memory ran out
 abbrev pub IsUnread : Status → Option (List ℕ) → Option (List ℕ) → ℕ → ℕ → Type 0
 IsUnread ends.ReadFault left left' faults faults' = Rose faults faults'
-IsUnread ends.Script left left' faults faults' = IfSome left (λ bytes. IsNoText bytes × (length bytes ≤ 1048576 → left' ≡ Some []))
+IsUnread ends.Script left left' faults faults' = IsRefused left left'
 IsUnread ends.Memory left left' faults faults' = Unit {0}
 IsUnread _ left left' faults faults' = ⊥
 
 -- the bytes that the source had left, where told, were read to their end and are the text of a
 -- script; a run of the script was made, whose cells are handed out; and its report went out, as
 -- Out says: whole, or a prefix of it
-pub record Ran (Out : Option (List ℕ) → Option (List ℕ) → List ℕ → Type 0) (old new : Devices) (cells : Option Left) : Type 0 where
+pub record Ran (Out : Option (List ℕ) → Option (List ℕ) → List ℕ → Type 0) (old new : Devices) (cells : Option RunRecord) : Type 0 where
   pub script : Scripted
   pub read : IsRead script old.left new.left
-  pub run : Left
+  pub run : RunRecord
   pub given : cells ≡ Some run
   pub is_run : IsRunOf script run
   pub written : Out old.held new.held (report_text script.sizes.threads run.history)
 
 -- how a trace ends, by its status
-pub record IsTraceEnd (old new : Devices) (status : Status) (cells : Option Left) : Type 0 where
+pub record IsTraceEnd (old new : Devices) (status : Status) (cells : Option RunRecord) : Type 0 where
   pub ok : status ≡ ends.Ok → Ran Appends old new cells
   pub write_fault : status ≡ ends.WriteFault → Ran AppendsPrefix old new cells
   pub write_fault_only_where_rose : status ≡ ends.WriteFault → SinkFailed old new
   pub read_fault_only_where_rose : status ≡ ends.ReadFault → SourceFailed old new
-  -- the bytes are no script, and were read to the end or past the greatest length
-  pub script : status ≡ ends.Script → IfSome old.left (λ bytes. IsNoText bytes × (length bytes ≤ 1048576 → new.left ≡ Some []))
+  pub script : status ≡ ends.Script → IsRefused old.left new.left
   pub script_line : status ≡ ends.Script → WritesLine (codes "bad script") old new
   pub read_fault_is_silent : status ≡ ends.ReadFault → WritesNothing old new
   pub memory_is_silent : status ≡ ends.Memory → WritesNothing old new
@@ -92,7 +94,7 @@ pub record IsTraceEnd (old new : Devices) (status : Status) (cells : Option Left
       (SourceFailed old new → ⊥) → (status ≡ ends.Script) ⊎ (status ≡ ends.Memory)
 
 -- the words are none of the forms: nothing was read, and the usage line was written
-pub record IsUsageEnd (old new : Devices) (status : Status) (cells : Option Left) : Type 0 where
+pub record IsUsageEnd (old new : Devices) (status : Status) (cells : Option RunRecord) : Type 0 where
   pub status_is : status ≡ ends.Usage
   pub no_cells : cells ≡ None
   pub unread : new.left ≡ old.left

@@ -12,6 +12,6 @@ pub record Kept : Type 0 where
   pub free : ℕ
 
 -- the history of a run, and the cells born in it, in order
-pub record Left : Type 0 where
+pub record RunRecord : Type 0 where
   pub history : List Entry
   pub born : List Span

@@ -13,7 +13,8 @@ use Rattle.kn_run.specs.Kept.{Kept}
 use Rattle.kn_run.specs.Rooms.{ArePlaced, free_after}
 
 -- what a run keeps stands for a graph: its history leads there, its cells are the objects, its
--- locals are those of thread 0, and no object has a word from the free address on
+-- locals are those of thread 0, no object has a word from the free address on, each birth took the least
+-- room, and the free address is behind the cell born last and within the small frames or at their end
 pub record StandsFor (z : Ground) (kept : Kept) (g : Graph) : Type 0 where
   pub replay : Leads z empty_graph kept.history g
   pub births : kept.born ≡ births_of z kept.history

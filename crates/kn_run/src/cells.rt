@@ -1,12 +1,12 @@
 ghost use Rattle.std.specs.Prelude.{◌≡◌};
-ghost use Rattle.kn_run.specs.Kept.{Left};
+ghost use Rattle.kn_run.specs.Kept.{RunRecord};
 
 use kn_base::Span;
 use kn_graph::Entry;
 use std::marker::Model;
 
 /// What a run leaves: its history, and the cells born in it, in order. Contracts see the record
-/// `Left` in `specs/Kept.antt`.
+/// `RunRecord` in `specs/Kept.antt`.
 #[derive(Drop)]
 pub struct Cells {
     history: Vec<Entry>,
@@ -14,9 +14,9 @@ pub struct Cells {
 }
 
 impl Model for Cells {
-    ghost use Rattle.kn_run.specs.Kept.{Left};
+    ghost use Rattle.kn_run.specs.Kept.{RunRecord};
 
-    ghost Value = { Left };
+    ghost Value = { RunRecord };
 
     ghost view = { λ cells. record { history = cells.history.items; born = cells.born.items } };
 }

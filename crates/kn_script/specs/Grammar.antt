@@ -145,8 +145,12 @@ pub record SayScript (s : Scripted) (lines : List Words) : Type 0 where
   pub said : SayBlock (ground_of s) calls block
   pub few_calls : length calls ≤ 16384
 
+-- the greatest length of a text, in bytes
+abbrev pub longest_text : ℕ
+longest_text = 1048576
+
 -- the bytes are the text of the script, whose sizes count its calls and births
 pub record IsText (s : Scripted) (bytes : List ℕ) : Type 0 where
-  pub short : length bytes ≤ 1048576
+  pub short : length bytes ≤ longest_text
   pub lines : SayScript s (lines_of_words bytes)
   pub counts : Counts s

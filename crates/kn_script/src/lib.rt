@@ -3,7 +3,7 @@
 //! This crate owns the relation between bytes and scripts (`specs/Grammar.antt`) and the parser
 //! that is proved against it in both directions. A script, once parsed, never changes.
 //!
-//! The parser goes over the bytes once, by cursors that hold what is left of them (`lines.rt`).
+//! The parser goes over the lines once, by cursors that hold what is left of them (`lines.rt`).
 //! Between any two steps the lines that were passed say exactly the parts that were read. Each kind
 //! of line has a reader of its own (`header.rt`, `layout_lines.rt`, `call_lines.rt`). The call words
 //! that are built are the variants of `Verb`.
