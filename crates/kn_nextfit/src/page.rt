@@ -129,6 +129,13 @@ impl NextFitPage {
     {
         self.cursor
     }
+
+    /// How many free spans there is room for. No call changes it.
+    pub fn room(&self) -> u32
+        ensures { result ≡ self.now.room }
+    {
+        self.free.room()
+    }
 }
 
 /// Takes the first `n` words of the next span with as many.

@@ -39,6 +39,7 @@ fn a_page_starts_again(rt: HostRuntime) -> Result<(), Fail> {
     page.reset(&swept);
     assert_eq!(rt; page.cursor(), 1);
     assert_eq!(rt; page.spans(), [span(9, 4)].as_slice());
+    assert_eq!(rt; page.room(), 9);
     Ok(())
 }
 
