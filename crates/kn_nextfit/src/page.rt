@@ -1,4 +1,4 @@
-ghost use Rattle.std.specs.Prelude.{◌≡◌, ◌↔◌, ℕ, ◌<◌, ◌≤◌, All, IfOk, IfSome, IsNone, MatchOption, [], ◌∷◌};
+ghost use Rattle.std.specs.Prelude.{◌≡◌, ◌↔◌, ℕ, ◌<◌, ◌≤◌, All, IfOk, IfSome, IsNone, MatchOption, [], ◌∷◌, length};
 ghost use Rattle.std.specs.Option.{option_map};
 ghost use Rattle.kn_base.specs.Spans.{IsSpan, end_of};
 ghost use Rattle.kn_ranges.specs.FreeSpans.{page_room};
@@ -112,6 +112,7 @@ impl NextFitPage {
     pub fn spans(&self) -> &[Span]
         ensures spans { result.now ≡ self.now.spans }
         ensures free_list { IsFreeListOf self.now.frame self.now.spans }
+        ensures room { length self.now.spans ≤ self.now.room }
     {
         self.free.spans()
     }
@@ -130,9 +131,11 @@ impl NextFitPage {
         self.cursor
     }
 
-    /// How many free spans there is room for. No call changes it.
+    /// How many free spans there is room for: at least as many as cells of 2 words ask for. No call
+    /// changes it.
     pub fn room(&self) -> u32
-        ensures { result ≡ self.now.room }
+        ensures room { result ≡ self.now.room }
+        ensures enough { page_room self.now.frame ≤ result }
     {
         self.free.room()
     }
