@@ -1,6 +1,11 @@
 pub mod Spans
+pub mod SpanLists
 pub mod Sizes
+pub mod Frames
+pub mod Classes
 pub mod Unpacks
 pub mod Kinds
 pub mod Words
 pub mod Pages
+pub mod Texts
+pub mod Functions

@@ -20,110 +20,86 @@ const SIZES: Sizes = Sizes {
 };
 
 #[test]
-fn frames_lie_one_after_another(rt: HostRuntime) {
-    assert_eq!(rt; SIZES.heap_words(), 336);
-    assert_eq!(rt; SIZES.frames(), 4);
-    assert_eq!(rt;
-        SIZES.frame_span(FrameNo(0)),
-        Some(Span { start: 1, len: 64 })
-    );
-    assert_eq!(rt;
-        SIZES.frame_span(FrameNo(1)),
-        Some(Span {
-            start: 65,
-            len: 128
-        })
-    );
-    assert_eq!(rt;
-        SIZES.frame_span(FrameNo(2)),
-        Some(Span {
-            start: 193,
-            len: 128
-        })
-    );
-    assert_eq!(rt;
-        SIZES.frame_span(FrameNo(3)),
-        Some(Span {
-            start: 321,
-            len: 16
-        })
-    );
-    assert_eq!(rt; SIZES.frame_span(FrameNo(4)), None);
+fn frames_lie_in_order(rt: HostRuntime) {
+    assert!(rt; SIZES.heap_words() == 336 && SIZES.frames() == 4);
+    let frames = [
+        (0, Some(Span::new(1, 64))),
+        (1, Some(Span::new(65, 128))),
+        (2, Some(Span::new(193, 128))),
+        (3, Some(Span::new(321, 16))),
+        (4, None),
+    ];
+    for (number, frame) in frames {
+        assert!(rt; SIZES.frame_span(FrameNo(number)) == frame);
+    }
 }
 
 #[test]
-fn phase_words(rt: HostRuntime) {
+fn words_are_packed_and_read(rt: HostRuntime) {
     let weak = PhaseWord {
         epoch: 3,
         code: Code::Weak,
     };
-    assert_eq!(rt; weak.pack(), 27);
-    assert_eq!(rt; PhaseWord::unpack(27), Some(weak));
-    assert_eq!(rt; PhaseWord::unpack(7), None);
-}
-
-#[test]
-fn mark_words(rt: HostRuntime) {
+    assert!(rt; weak.pack() == 27 && PhaseWord::unpack(27) == Some(weak));
     let black = MarkWord {
         epoch: 3,
         colour: Colour::Black,
     };
-    assert_eq!(rt; black.pack(), 15);
-    assert_eq!(rt; MarkWord::unpack(15), Some(black));
-    assert_eq!(rt; MarkWord::unpack(0), None);
-    assert_eq!(rt; MarkWord::unpack(4), None);
-}
-
-#[test]
-fn header_words(rt: HostRuntime) {
+    assert!(rt; black.pack() == 15 && MarkWord::unpack(15) == Some(black));
     let header = HeaderWord {
         layout: 2,
         length: 5,
         extra: 9,
     };
-    assert_eq!(rt; header.pack(), 562_950_037_307_401);
-    assert_eq!(rt; HeaderWord::unpack(562_950_037_307_401), Some(header));
-}
-
-#[test]
-fn frame_words(rt: HostRuntime) {
+    assert!(rt; header.pack() == 562_950_037_307_401);
+    assert!(rt; HeaderWord::unpack(562_950_037_307_401) == Some(header));
     let owned = FrameWord {
         kind: FrameKind::Owned,
         class: 3,
         stamp: 1,
         seat: 2,
     };
-    assert_eq!(rt; owned.pack(), 360_291_268_724_523_266);
-    assert_eq!(rt; FrameWord::unpack(360_291_268_724_523_266), Some(owned));
-}
-
-#[test]
-fn node_words(rt: HostRuntime) {
+    assert!(rt; owned.pack() == 360_291_268_724_523_266);
+    assert!(rt; FrameWord::unpack(360_291_268_724_523_266) == Some(owned));
     let back = NodeWord {
         kind: NodeKind::Back,
         count: 3,
         addr: 65,
     };
-    assert_eq!(rt; back.pack(), 216_172_794_998_685_761);
-    assert_eq!(rt; NodeWord::unpack(216_172_794_998_685_761), Some(back));
+    assert!(rt; back.pack() == 216_172_794_998_685_761);
+    assert!(rt; NodeWord::unpack(216_172_794_998_685_761) == Some(back));
+}
+
+#[test]
+fn classes_have_numbers(rt: HostRuntime) {
+    let classes = [
+        (0, None),
+        (1, None),
+        (2, Some(PageClass::Fixed(2))),
+        (32, Some(PageClass::Fixed(32))),
+        (33, Some(PageClass::NextFit)),
+        (34, Some(PageClass::Single)),
+        (35, Some(PageClass::Extra)),
+        (36, None),
+    ];
+    for (number, class) in classes {
+        assert!(rt; PageClass::of_number(number) == class);
+    }
+    assert!(rt; PageClass::Extra.number() == 35);
+}
+
+#[test]
+fn lines_are_counted(rt: HostRuntime) {
+    assert!(rt; line_after(b"") == 1);
+    assert!(rt; line_after(b"a\n\nb") == 3);
 }
 
 #[test]
 fn a_page_tells_its_frame(rt: HostRuntime) {
     let page = Whole {
-        free: [Span {
-            start: 321,
-            len: 16,
-        }],
+        free: [Span::new(321, 16)],
     };
-    assert_eq!(rt;
-        page.frame(),
-        Span {
-            start: 321,
-            len: 16
-        }
-    );
-    assert_eq!(rt; page.class(), 0);
-    assert_eq!(rt; page.cursor(), 321);
-    assert_eq!(rt; free_end(&page), Some(337));
+    assert!(rt; page.frame().end() == 337 && page.frame().front(2) == Span::new(321, 2));
+    assert!(rt; page.class() == 0 && page.cursor() == 321);
+    assert!(rt; free_end(&page) == Some(337));
 }

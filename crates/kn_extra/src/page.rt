@@ -1,76 +1,84 @@
 ghost use Rattle.std.specs.Prelude.{◌≡◌, ◌↔◌, ℕ, ◌<◌, ◌≤◌, All, IfOk, IfSome, IsNone, MatchOption};
 ghost use Rattle.std.specs.Option.{option_map};
-ghost use Rattle.kn_base.specs.Spans.{IsSpan, LiesIn};
-ghost use Rattle.kn_extra.specs.ExtraState.{extra_cell_words, whole_page};
+ghost use Rattle.kn_base.specs.Spans.{AreApart, IsSpan, LiesIn};
+ghost use Rattle.kn_base.specs.declared.numbers.Span.{Span};
+ghost use Rattle.kn_extra.specs.ExtraState.{whole_extra_page};
 ghost use Rattle.kn_ranges.specs.Cells.{IsOnCells, IsTakenCell, LeavesWholeCells};
-ghost use Rattle.kn_ranges.specs.SpanLists.{IsFreeListOf, first_fit, free_word_count, front_of, put_in, without};
+ghost use Rattle.kn_base.specs.SpanLists.{IsFreeListOf, first_fit, free_word_count, front_of, put_in, without};
 
 use kn_base::Span;
+use kn_fixed::FixedPage;
 use kn_ranges::Ranges;
 use std::alloc::{AllocError, Global};
 use std::marker::Model;
 
-/// The words of a cell.
-const CELL_WORDS: u32 = 2;
+/// The number of words of an extra cell.
+pub const EXTRA_CELL: u32 = 2;
 
-/// A page of cells of 2 words over a frame.
+/// A page of cells of `EXTRA_CELL` words over a frame.
 ///
 /// Contracts see a record of the frame's span and the free spans in order
 /// (`specs/ExtraState.antt`). A `None` leaves the page as it was. Cells and what a list of free
 /// spans leaves are defined in `kn_ranges`.
 #[derive(Drop)]
 pub struct ExtraPage {
-    frame: Span,
-    free: Ranges,
+    cells: FixedPage,
 }
 
 impl Model for ExtraPage {
-    ghost use Rattle.kn_extra.specs.ExtraState.{ExtraState, IsExtra};
+    ghost use Rattle.std.specs.Prelude.{◌≡◌};
+    ghost use Rattle.kn_extra.specs.declared.page.TheConstants.{EXTRA_CELL};
+    ghost use Rattle.kn_extra.specs.ExtraState.{ExtraState};
 
     ghost Value = { ExtraState };
 
-    ghost view = { λ p. record { frame = p.frame; spans = p.free.spans } };
+    ghost view = { λ p. record { frame = p.cells.frame; spans = p.cells.spans } };
 
-    ghost invariant = { λ p. IsExtra p.frame p.free };
+    ghost invariant = { λ p. p.cells.words ≡ EXTRA_CELL };
 }
 
 impl ExtraPage {
     /// A page over `span`, all free. An error is want of memory.
     pub fn open(alloc: Global, span: Span) -> Result<ExtraPage, AllocError>
         requires { IsSpan span }
-        ensures { IfOk result (λ page. page ≡ whole_page span) }
+        ensures { IfOk result (λ page. page ≡ whole_extra_page span) }
     {
-        let free = Ranges::open(alloc, span, span.len / 4 + 1)?;
-        Ok(ExtraPage { frame: span, free })
+        let cells = FixedPage::open(alloc, span, EXTRA_CELL)?;
+        Ok(ExtraPage { cells })
     }
 
     /// Takes the first cell of the first free span that has room for one, or `None` where no free
-    /// span has.
+    /// span has. Cells that were taken before stay taken.
     pub fn take(&mut self) -> Option<Span>
-        ensures none { IsNone result ↔ All (λ span. span.len < extra_cell_words) self.old.spans }
-        ensures taken { result ≡ option_map (front_of extra_cell_words) (first_fit extra_cell_words self.old.spans) }
+        ensures none { IsNone result ↔ All (λ span. span.len < EXTRA_CELL) self.old.spans }
+        ensures taken { result ≡ option_map (front_of EXTRA_CELL) (first_fit EXTRA_CELL self.old.spans) }
         ensures after { MatchOption result (self.new ≡ self.old)
             (λ cell. self.new ≡ record self.old { spans = without cell self.old.spans }) }
-        ensures cell { IfSome result (IsTakenCell self.new.frame extra_cell_words self.new.spans) }
+        ensures cell { IfSome result (IsTakenCell self.new.frame EXTRA_CELL self.new.spans) }
+        ensures others { (other : Span) → IsTakenCell self.old.frame EXTRA_CELL self.old.spans other
+            → IsTakenCell self.new.frame EXTRA_CELL self.new.spans other × IfSome result (AreApart other) }
     {
-        self.free.take_first(CELL_WORDS)
+        self.cells.take()
     }
 
-    /// Frees a taken cell.
+    /// Frees a taken cell. Other cells stay taken.
     pub fn release(&mut self, cell: Span)
-        requires { IsTakenCell self.old.frame extra_cell_words self.old.spans cell }
-        ensures { self.new ≡ record self.old { spans = put_in cell self.old.spans } }
+        requires { IsTakenCell self.old.frame EXTRA_CELL self.old.spans cell }
+        ensures after { self.new ≡ record self.old { spans = put_in cell self.old.spans } }
+        ensures others { (other : Span) → AreApart other cell
+            → IsTakenCell self.old.frame EXTRA_CELL self.old.spans other
+            → IsTakenCell self.new.frame EXTRA_CELL self.new.spans other }
     {
-        self.free.put(cell);
+        self.cells.release(cell);
     }
 
     /// Makes the free spans those of `free`.
     pub fn reset(&mut self, free: &Ranges)
         requires within { All (λ span. LiesIn span self.old.frame) free.now.spans }
-        requires cells { LeavesWholeCells self.old.frame extra_cell_words free.now.spans }
+        requires cells { LeavesWholeCells self.old.frame EXTRA_CELL free.now.spans }
         ensures { self.new ≡ record self.old { spans = free.now.spans } }
     {
-        self.free.refill(free.spans());
+        self.cells.reset(free);
     }
 
     /// The frame's span.
@@ -78,22 +86,22 @@ impl ExtraPage {
         ensures frame { result ≡ self.now.frame }
         ensures span { IsSpan result }
     {
-        self.frame
+        self.cells.frame()
     }
 
     /// The free spans, sorted by their starts. None touches another, and each begins with a cell.
     pub fn spans(&self) -> &[Span]
         ensures spans { result.now ≡ self.now.spans }
         ensures free_list { IsFreeListOf self.now.frame self.now.spans }
-        ensures cells { All (IsOnCells self.now.frame extra_cell_words) self.now.spans }
+        ensures cells { All (IsOnCells self.now.frame EXTRA_CELL) self.now.spans }
     {
-        self.free.spans()
+        self.cells.spans()
     }
 
     /// The words of all free spans.
     pub fn free_words(&self) -> u32
         ensures { result ≡ free_word_count self.now.spans }
     {
-        self.free.free_words()
+        self.cells.free_words()
     }
 }

@@ -1,13 +1,15 @@
 ghost use Rattle.std.specs.Prelude.{◌≡◌, ◌↔◌, ℕ, ◌<◌, ◌≤◌, All, IfOk, IfSome, IsNone, MatchOption};
 ghost use Rattle.std.specs.Option.{option_map};
-ghost use Rattle.kn_base.specs.Spans.{IsSpan, LiesIn};
-ghost use Rattle.kn_fixed.specs.FixedState.{IsCellSize, whole_page};
+ghost use Rattle.kn_base.specs.Spans.{AreApart, IsSpan, LiesIn};
+ghost use Rattle.kn_base.specs.declared.numbers.Span.{Span};
+ghost use Rattle.kn_base.specs.Classes.{IsCellSize};
+ghost use Rattle.kn_fixed.specs.FixedState.{whole_fixed_page};
 ghost use Rattle.kn_ranges.specs.Cells.{IsOnCells, IsTakenCell, LeavesWholeCells};
 ghost use Rattle.kn_ranges.specs.FreeSpans.{page_room};
-ghost use Rattle.kn_ranges.specs.SpanLists.{IsFreeListOf, IsWhollyFree, first_fit, free_word_count, front_of, put_in, without};
+ghost use Rattle.kn_base.specs.SpanLists.{IsFreeListOf, IsWhollyFree, first_fit, free_word_count, front_of, put_in, without};
 
 use kn_base::Span;
-use kn_ranges::Ranges;
+use kn_ranges::{Ranges, cells_are_released, cells_are_taken, whole_cells_are_left};
 use std::alloc::{AllocError, Global};
 use std::marker::Model;
 
@@ -38,9 +40,9 @@ impl FixedPage {
     pub fn open(alloc: Global, span: Span, words: u32) -> Result<FixedPage, AllocError>
         requires span { IsSpan span }
         requires size { IsCellSize words }
-        ensures { IfOk result (λ page. page ≡ whole_page span words) }
+        ensures { IfOk result (λ page. page ≡ whole_fixed_page span words) }
     {
-        let free = Ranges::open(alloc, span, span.len / 4 + 1)?;
+        let free = Ranges::open_frame(alloc, span)?;
         Ok(FixedPage {
             frame: span,
             words,
@@ -54,7 +56,7 @@ impl FixedPage {
         requires size { IsCellSize words }
         requires free { IsWhollyFree span ranges.spans }
         requires room { page_room span ≤ ranges.room }
-        ensures { result ≡ whole_page span words }
+        ensures { result ≡ whole_fixed_page span words }
     {
         FixedPage {
             frame: span,
@@ -81,22 +83,29 @@ impl FixedPage {
     }
 
     /// Takes the first cell of the first free span that has room for one, or `None` where no free
-    /// span has.
+    /// span has. Cells that were taken before stay taken.
     pub fn take(&mut self) -> Option<Span>
         ensures none { IsNone result ↔ All (λ span. span.len < self.old.words) self.old.spans }
         ensures taken { result ≡ option_map (front_of self.old.words) (first_fit self.old.words self.old.spans) }
         ensures after { MatchOption result (self.new ≡ self.old)
             (λ cell. self.new ≡ record self.old { spans = without cell self.old.spans }) }
         ensures cell { IfSome result (IsTakenCell self.new.frame self.new.words self.new.spans) }
+        ensures others { (other : Span) → IsTakenCell self.old.frame self.old.words self.old.spans other
+            → IsTakenCell self.new.frame self.new.words self.new.spans other × IfSome result (AreApart other) }
     {
+        cells_are_taken();
         self.free.take_first(self.words)
     }
 
-    /// Frees a taken cell.
+    /// Frees a taken cell. Other cells stay taken.
     pub fn release(&mut self, cell: Span)
         requires { IsTakenCell self.old.frame self.old.words self.old.spans cell }
-        ensures { self.new ≡ record self.old { spans = put_in cell self.old.spans } }
+        ensures after { self.new ≡ record self.old { spans = put_in cell self.old.spans } }
+        ensures others { (other : Span) → AreApart other cell
+            → IsTakenCell self.old.frame self.old.words self.old.spans other
+            → IsTakenCell self.new.frame self.new.words self.new.spans other }
     {
+        cells_are_released();
         self.free.put(cell);
     }
 
@@ -106,6 +115,7 @@ impl FixedPage {
         requires cells { LeavesWholeCells self.old.frame self.old.words free.now.spans }
         ensures { self.new ≡ record self.old { spans = free.now.spans } }
     {
+        whole_cells_are_left();
         self.free.refill(free.spans());
     }
 

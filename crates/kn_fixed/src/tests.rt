@@ -1,39 +1,39 @@
-ghost use Rattle.std.specs.Prelude.{◌≡◌};
-
 use crate::FixedPage;
 use kn_base::Span;
 use kn_ranges::Ranges;
 use std::test::Fail;
 
-fn span(start: u32, len: u32) -> Span
-    ensures { result ≡ record { start = start; len = len } }
-{
-    Span { start, len }
-}
+const FRAME: Span = Span { start: 1, len: 7 };
+
+const FIRST: Span = Span { start: 1, len: 3 };
+
+const SECOND: Span = Span { start: 4, len: 3 };
+
+const LEFT_OVER: Span = Span { start: 7, len: 1 };
 
 #[test]
 fn cells_are_taken_from_the_front(rt: HostRuntime) -> Result<(), Fail> {
-    let mut page = FixedPage::open(rt.alloc(), span(1, 7), 3)?;
-    assert_eq!(rt; page.take(), Some(span(1, 3)));
-    assert_eq!(rt; page.take(), Some(span(4, 3)));
-    assert_eq!(rt; page.take(), None);
-    assert_eq!(rt; page.spans(), [span(7, 1)].as_slice());
-    assert_eq!(rt; page.free_words(), 1);
-    page.release(span(1, 3));
-    assert_eq!(rt; page.take(), Some(span(1, 3)));
-    let whole = Ranges::open(rt.alloc(), span(1, 7), 1)?;
+    let mut page = FixedPage::open(rt.alloc(), FRAME, 3)?;
+    assert!(rt; page.take() == Some(FIRST));
+    assert!(rt; page.take() == Some(SECOND));
+    assert!(rt; page.take() == None);
+    assert!(rt; page.spans() == [LEFT_OVER].as_slice());
+    assert!(rt; page.free_words() == 1);
+    page.release(FIRST);
+    assert!(rt; page.take() == Some(FIRST));
+    let whole = Ranges::open(rt.alloc(), FRAME, 1)?;
     page.reset(&whole);
-    assert_eq!(rt; page.spans(), [span(1, 7)].as_slice());
+    assert!(rt; page.spans() == [FRAME].as_slice());
     Ok(())
 }
 
 #[test]
 fn a_free_page_changes_its_cells(rt: HostRuntime) -> Result<(), Fail> {
-    let mut page = FixedPage::open(rt.alloc(), span(1, 64), 2)?;
+    let mut page = FixedPage::open(rt.alloc(), FRAME, 2)?;
     page.reclass(32);
-    assert_eq!(rt; page.words(), 32);
-    let page = FixedPage::over(page.into_ranges(), span(1, 64), 5);
-    assert_eq!(rt; page.frame(), span(1, 64));
-    assert_eq!(rt; page.spans(), [span(1, 64)].as_slice());
+    assert!(rt; page.words() == 32);
+    let page = FixedPage::over(page.into_ranges(), FRAME, 5);
+    assert!(rt; page.frame() == FRAME);
+    assert!(rt; page.spans() == [FRAME].as_slice());
     Ok(())
 }

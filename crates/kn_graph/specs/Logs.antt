@@ -1,19 +1,20 @@
 -- What of a history belongs to one caller, and when a thread's log is complete.
-use Rattle.std.specs.Prelude.{◌≡◌, ℕ, ◌==◌, Some, List, [], ◌∷◌, filter, slice_get}
+use Rattle.std.specs.Prelude.{◌≡◌, ℕ, ◌==◌, ◌<◌, List, [], ◌∷◌, ◌++◌, filter, length, slice_index_or}
 use Rattle.std.specs.List.{flat_map}
-use Rattle.kn_base.specs.declared.numbers.Span.{Span}
 use Rattle.kn_graph.specs.declared.calls.Call.{Call}
-use Rattle.kn_graph.specs.declared.calls.Call.TheVariants.{New, NewArray}
 use Rattle.kn_graph.specs.declared.calls.Reply.{Reply}
-use Rattle.kn_graph.specs.declared.calls.Reply.TheVariants as replies
 use Rattle.kn_graph.specs.declared.entries.Event.{Event}
 use Rattle.kn_graph.specs.declared.entries.Event.TheVariants as events
 use Rattle.kn_graph.specs.declared.entries.Entry.{Entry}
-use Rattle.kn_graph.specs.Graph.{Ground, cell_at}
 
 -- the entries of one caller, in order
 abbrev pub log_of : ℕ → List Entry → List Entry
 log_of by = filter (λ entry. entry.by.0 == by)
+
+-- a list of logs, one for each caller, fits a history where each is that caller's
+pub record LogsFit (callers : ℕ) (logs : List (List Entry)) (history : List Entry) : Type 0 where
+  pub count : length logs ≡ callers
+  pub each : (by : ℕ) → by < callers → slice_index_or logs by [] ≡ log_of by history
 
 -- the call of an entry that answers one
 abbrev pub call_in : Event → List Call
@@ -33,26 +34,10 @@ calls_of = flat_map (λ entry. call_in entry.what)
 abbrev pub replies_of : List Entry → List Reply
 replies_of = flat_map (λ entry. reply_in entry.what)
 
--- the log of each thread answers exactly the thread's calls, each once, in order
-abbrev pub AreComplete : List (List Call) → List Entry → Type 0
-AreComplete threads entries = (thread : ℕ) (calls : List Call) → slice_get threads thread ≡ Some calls → calls_of (log_of thread entries) ≡ calls
+-- a log answers exactly these calls, each once, in order
+abbrev pub IsComplete : List Entry → List Call → Type 0
+IsComplete log calls = calls_of log ≡ calls
 
--- the cell of a birth that found room
-abbrev pub cell_where_ok : Reply → Span → List Span
-cell_where_ok replies.Ok cell = cell ∷ []
-cell_where_ok _ cell = []
-
--- the words that a call took
-abbrev pub cell_of_call : Ground → Call → Reply → ℕ → List Span
-cell_of_call z (New r layout) reply address = cell_where_ok reply (cell_at z address layout 0)
-cell_of_call z (NewArray r layout n) reply address = cell_where_ok reply (cell_at z address layout n)
-cell_of_call z _ reply address = []
-
--- the words that an event took
-abbrev pub cell_in : Ground → Event → List Span
-cell_in z (events.Call call reply address) = cell_of_call z call reply address
-cell_in z _ = []
-
--- the spans of the births of a history, in order
-abbrev pub births_of : Ground → List Entry → List Span
-births_of z = flat_map (λ entry. cell_in z entry.what)
+-- a log answers the first of these calls, each once, in order
+abbrev pub IsPartial : List Entry → List Call → Type 0
+IsPartial log calls = (rest : List Call) × (calls_of log ++ rest ≡ calls)

@@ -3,7 +3,7 @@ use std::fmt;
 /// One call of a script, with its arguments in the order of the script.
 ///
 /// Locals, globals and names are numbers from 0. A layout is the number of a `layout` line.
-#[derive(Clone, Copy, Debug, PartialEq, Eq)]
+#[derive(Clone, Copy)]
 pub enum Call {
     /// `new r L`: the local, the layout.
     New(u8, u8),
@@ -52,7 +52,7 @@ pub enum Call {
 }
 
 /// What a call answers.
-#[derive(Clone, Copy, Debug, PartialEq, Eq)]
+#[derive(Clone, Copy, PartialEq)]
 pub enum Reply {
     /// It was done.
     Ok,

@@ -1,21 +1,14 @@
-use crate::calls::Reply;
-use crate::layouts::{FieldKind, FieldKinds, Layout, cell_words};
-use std::test::Fail;
+ghost use Rattle.std.specs.Prelude.{◌≡◌, IfOk};
+ghost use Rattle.kn_base.specs.Sizes.{IsGood};
 
-#[test]
-fn cells_have_their_sizes(rt: HostRuntime) -> Result<(), Fail> {
-    let kinds = FieldKinds::from_vec(vec![in rt.alloc(); FieldKind::Ref, FieldKind::Int]?);
-    assert_eq!(rt; kinds.as_slice().len(), 2);
-    let none = FieldKinds::from_vec(Vec::new(rt.alloc())).into_vec();
-    assert_eq!(rt; cell_words(&Layout::Fields(kinds), 9), 3);
-    assert_eq!(rt;
-        cell_words(&Layout::Fields(FieldKinds::from_vec(none)), 9),
-        2
-    );
-    assert_eq!(rt; cell_words(&Layout::Array(FieldKind::Int), 0), 2);
-    assert_eq!(rt; cell_words(&Layout::Array(FieldKind::Ref), 60_000), 60_001);
-    Ok(())
-}
+use crate::calls::{Call, Reply};
+use crate::entries::{Entry, Event};
+use crate::graph::Graph;
+use kn_base::{Caller, Sizes};
+use kn_layout::{FieldKind, FieldKinds, Layout};
+use std::alloc::{AllocError, Global};
+use std::process::Abort;
+use std::test::Fail;
 
 const SPELLED: &str = "ok full nil yes no ref null nofield kind int 18446744073709551615 \
     taken vacant none count 4095 top zero already epoch 3 ";
@@ -46,6 +39,205 @@ fn replies_are_spelled(rt: HostRuntime) -> Result<(), Fail> {
     for reply in replies {
         write!(text, "{reply} ")?;
     }
-    assert_eq!(rt; text.as_str(), SPELLED);
+    assert!(rt; text.as_str() == SPELLED);
+    Ok(())
+}
+
+/// One small frame of 64 words, two threads, and one global and name of each kind.
+fn small_heap() -> Sizes
+    ensures good { IsGood result }
+    ensures threads { result.threads ≡ 2 }
+{
+    Sizes {
+        small: 1,
+        small_words: 64,
+        large: 0,
+        large_words: 64,
+        extra: 0,
+        extra_words: 2,
+        globals: 1,
+        stable: 1,
+        weak: 1,
+        back: 1,
+        threads: 2,
+        calls: [0; 16],
+        births: [0; 16],
+    }
+}
+
+/// The empty graph over that heap, with the layouts `fields ref int` and `array int`.
+fn open(alloc: Global) -> Result<Graph, AllocError>
+    ensures { IfOk result (λ graph. graph.ground.sizes.threads ≡ 2) }
+{
+    let kinds = FieldKinds::from_vec(vec![in alloc; FieldKind::Ref, FieldKind::Int]?);
+    let layouts = [Layout::Fields(kinds), Layout::Array(FieldKind::Int)];
+    Graph::open(alloc, &small_heap(), &layouts)
+}
+
+/// Applies entries, and tells whether each was legal exactly where it was to be.
+fn replay(
+    graph: &mut Graph,
+    table: &[(u8, u32, Event, bool)],
+    rt: &impl Abort,
+) -> Result<bool, AllocError> {
+    for (by, epoch, what, legal) in table {
+        assert!(rt; graph.objects() < 100);
+        let entry = Entry {
+            by: Caller(*by),
+            epoch: *epoch,
+            what: *what,
+        };
+        if graph.apply(&entry)? != *legal {
+            return Ok(false);
+        }
+    }
+    Ok(true)
+}
+
+/// Callers, epochs and events, and whether each is legal next.
+const CALLS: [(u8, u32, Event, bool); 44] = [
+    (0, 0, Event::Call(Call::New(0, 0), Reply::Ok, 1), true),
+    (0, 0, Event::Released(1), false),
+    (0, 0, Event::Call(Call::New(1, 0), Reply::Ok, 3), false),
+    (0, 0, Event::Call(Call::New(1, 0), Reply::Ok, 63), false),
+    (0, 0, Event::Call(Call::New(1, 0), Reply::Full, 4), false),
+    (0, 0, Event::Call(Call::New(1, 0), Reply::Full, 0), true),
+    (0, 0, Event::Call(Call::New(1, 0), Reply::Ok, 4), true),
+    (0, 0, Event::Call(Call::New(1, 1), Reply::Ok, 7), false),
+    (
+        0,
+        0,
+        Event::Call(Call::NewArray(5, 1, 3), Reply::Ok, 7),
+        true,
+    ),
+    (2, 0, Event::Call(Call::Clear(2), Reply::Ok, 0), false),
+    (0, 1, Event::Call(Call::Clear(2), Reply::Ok, 0), false),
+    (0, 0, Event::Call(Call::Clear(16), Reply::Ok, 0), false),
+    (0, 0, Event::Call(Call::Clear(2), Reply::Full, 0), false),
+    (0, 0, Event::Call(Call::Clear(2), Reply::Ok, 0), true),
+    (0, 0, Event::Call(Call::Same(0, 1), Reply::Yes, 0), false),
+    (0, 0, Event::Call(Call::Same(0, 1), Reply::No, 0), true),
+    (0, 0, Event::Call(Call::Copy(2, 0), Reply::Ok, 0), true),
+    (0, 0, Event::Call(Call::Same(0, 2), Reply::Yes, 0), true),
+    (0, 0, Event::Call(Call::Get(2, 0, 0), Reply::Null, 0), true),
+    (
+        0,
+        0,
+        Event::Call(Call::Get(2, 0, 1), Reply::WrongKind, 0),
+        true,
+    ),
+    (
+        0,
+        0,
+        Event::Call(Call::Get(2, 5, 3), Reply::NoField, 0),
+        true,
+    ),
+    (0, 0, Event::Call(Call::Set(0, 0, 1), Reply::Ok, 0), true),
+    (0, 0, Event::Call(Call::Get(3, 0, 0), Reply::Ref, 0), true),
+    (0, 0, Event::Call(Call::Put(0, 1, 9), Reply::Ok, 0), true),
+    (0, 0, Event::Call(Call::Read(0, 1), Reply::Int(8), 0), false),
+    (0, 0, Event::Call(Call::Read(0, 1), Reply::Int(9), 0), true),
+    (0, 0, Event::Call(Call::GlobalSet(0, 0), Reply::Ok, 0), true),
+    (
+        1,
+        0,
+        Event::Call(Call::GlobalGet(0, 0), Reply::Ref, 0),
+        true,
+    ),
+    (
+        1,
+        0,
+        Event::Call(Call::GlobalGet(0, 1), Reply::Null, 0),
+        false,
+    ),
+    (0, 0, Event::Call(Call::Pin(0, 0), Reply::Ok, 0), true),
+    (0, 0, Event::Call(Call::Pin(0, 1), Reply::Taken, 0), true),
+    (
+        0,
+        0,
+        Event::Call(Call::StableGet(4, 0), Reply::Ref, 0),
+        true,
+    ),
+    (0, 0, Event::Call(Call::Unpin(0), Reply::Ok, 0), true),
+    (0, 0, Event::Call(Call::Unpin(0), Reply::Vacant, 0), true),
+    (0, 0, Event::Call(Call::MakeWeak(0, 1), Reply::Ok, 0), true),
+    (0, 0, Event::Call(Call::WeakGet(4, 0), Reply::Ref, 0), true),
+    (0, 0, Event::Call(Call::MakeBack(0, 1), Reply::Ok, 0), true),
+    (0, 0, Event::Call(Call::Retain(0), Reply::Count(1), 0), true),
+    (
+        0,
+        0,
+        Event::Call(Call::Release(0), Reply::Count(0), 0),
+        true,
+    ),
+    (0, 0, Event::Call(Call::Release(0), Reply::Zero, 0), true),
+    (0, 0, Event::Call(Call::BackGet(4, 0), Reply::Ref, 0), true),
+    (0, 0, Event::Call(Call::Tie(1, 0, 7), Reply::Ok, 0), true),
+    (
+        0,
+        0,
+        Event::Call(Call::Tie(1, 1, 8), Reply::Already, 0),
+        true,
+    ),
+    (1, 0, Event::Call(Call::Collect, Reply::Epoch(1), 0), false),
+];
+
+const COLLECTIONS: [(u8, u32, Event, bool); 37] = [
+    (0, 0, Event::Call(Call::New(0, 0), Reply::Ok, 1), true),
+    (0, 0, Event::Call(Call::New(1, 0), Reply::Ok, 4), true),
+    (0, 0, Event::Call(Call::New(2, 0), Reply::Ok, 7), true),
+    (0, 0, Event::Call(Call::MakeBack(0, 1), Reply::Ok, 0), true),
+    (0, 0, Event::Call(Call::Tie(1, 0, 7), Reply::Ok, 0), true),
+    (0, 0, Event::Call(Call::Clear(1), Reply::Ok, 0), true),
+    (0, 0, Event::Call(Call::Clear(2), Reply::Ok, 0), true),
+    (1, 0, Event::Pause(1), false),
+    (2, 2, Event::Pause(2), false),
+    (2, 1, Event::Pause(1), true),
+    (2, 2, Event::Pause(2), false),
+    (0, 1, Event::Call(Call::Release(0), Reply::Zero, 0), false),
+    (0, 1, Event::Call(Call::Release(0), Reply::Nothing, 0), true),
+    (0, 1, Event::Released(1), false),
+    (0, 1, Event::Released(4), false),
+    (0, 0, Event::Released(7), false),
+    (3, 1, Event::Released(7), false),
+    (0, 1, Event::Released(7), true),
+    (0, 1, Event::Released(7), false),
+    (2, 1, Event::Done(1), false),
+    (2, 1, Event::Queued(1), false),
+    (2, 1, Event::Queued(4), true),
+    (2, 1, Event::Queued(4), false),
+    (3, 0, Event::Finalized(4, 0, 8), false),
+    (3, 0, Event::Finalized(4, 0, 7), true),
+    (3, 0, Event::Finalized(4, 0, 7), false),
+    (2, 1, Event::Done(1), true),
+    (2, 1, Event::Done(1), false),
+    (1, 1, Event::Call(Call::Collect, Reply::Epoch(2), 0), false),
+    (1, 1, Event::Call(Call::Collect, Reply::Epoch(1), 0), true),
+    (1, 1, Event::Call(Call::Collect, Reply::Epoch(1), 0), false),
+    (0, 1, Event::Call(Call::New(2, 0), Reply::Ok, 4), false),
+    (0, 1, Event::Call(Call::New(2, 0), Reply::Ok, 7), true),
+    (2, 2, Event::Pause(2), true),
+    (2, 2, Event::Done(2), false),
+    (1, 2, Event::Released(4), true),
+    (2, 2, Event::Done(2), true),
+];
+
+#[test]
+fn histories_are_replayed(rt: HostRuntime) -> Result<(), Fail> {
+    let mut graph = open(rt.alloc())?;
+    assert!(rt; replay(&mut graph, &CALLS, &rt)?);
+    assert!(rt; graph.objects() == 3);
+    let mut graph = open(rt.alloc())?;
+    assert!(rt; replay(&mut graph, &COLLECTIONS, &rt)?);
+    assert!(rt; graph.epoch() == 2);
+    Ok(())
+}
+
+#[test]
+fn calls_are_answered(rt: HostRuntime) -> Result<(), Fail> {
+    let mut graph = open(rt.alloc())?;
+    assert!(rt; graph.objects() == 0);
+    let reply = graph.answer(Caller(0), &Call::Same(0, 0), 0, &Reply::Ok)?;
+    assert!(rt; reply == Reply::Yes);
     Ok(())
 }

@@ -1,5 +1,6 @@
 pub mod Counts
 pub mod Told
+pub mod Devices
 pub mod CallLog
 pub mod States
 pub mod Ends

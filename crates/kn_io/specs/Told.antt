@@ -7,6 +7,10 @@ use Rattle.std.specs.Io.KnownBytes.{prepend_known, append_known}
 abbrev pub Gives : Option (List ℕ) → Option (List ℕ) → List ℕ → Type 0
 Gives old new front = old ≡ prepend_known front new
 
+-- some bytes were given, at most n, and the rest is left; what is not told stays not told
+abbrev pub GivesAtMost : ℕ → Option (List ℕ) → Option (List ℕ) → Type 0
+GivesAtMost n old new = (front : List ℕ) × (length front ≤ n) × Gives old new front
+
 -- some bytes were given, and the rest is left; what is not told stays not told
 abbrev pub GivesSome : Option (List ℕ) → Option (List ℕ) → Type 0
 GivesSome old new = (front : List ℕ) × Gives old new front

@@ -1,3 +1,9 @@
+//! Readers and writers of std as devices.
+//!
+//! Each owns its reader or writer and the count of its errors; only the calls of the device change
+//! them. Between any two calls the count has not fallen, and it rose by one in each call that failed
+//! (`counted_on` in `specs/Counts.antt`).
+
 ghost use Rattle.std.specs.Prelude.{◌≡◌, ◌<◌, ◌≤◌, length, None, IfOk, OnOk, OnErr};
 ghost use Rattle.std.specs.Io.KnownBytes.{Keeps, ReadConsumes, WriteAppends};
 ghost use Rattle.kn_io.specs.StdDevices.{reader_of, read_errors, writer_of, write_errors};
@@ -35,7 +41,7 @@ impl<R: Read> Source for StdSource<R> {
         ensures within { IfOk result (λ n. n ≤ length buf.old) }
         ensures bytes { ReadConsumes (R.remaining (reader_of self.old))
             (R.remaining (reader_of self.new)) result buf.new }
-        ensures errors { OnOk result (read_errors self.new ≡ read_errors self.old) }
+        ensures ok_without_fault { OnOk result (read_errors self.new ≡ read_errors self.old) }
         ensures failed_errors { OnErr result
             (read_errors self.new ≡ counted_on (read_errors self.old) 1) }
 
@@ -77,6 +83,8 @@ impl<W: Write> Sink for StdSink<W> {
 
     ghost faults = { λ s. write_errors s };
 
+    ghost is_flushed = { λ _. Unit {0} };
+
     /// Writes once. Each error is a fault, also that of a call that a signal interrupted, and so is
     /// a writer that takes no byte of a piece that is not empty.
     fn write(&mut self, bytes: &[u8]) -> Result<usize, Failed>
@@ -84,7 +92,7 @@ impl<W: Write> Sink for StdSink<W> {
         ensures some { IfOk result (λ n. 0 < length bytes.now → 0 < n) }
         ensures bytes { WriteAppends (W.contents (writer_of self.old))
             (W.contents (writer_of self.new)) result bytes.now }
-        ensures errors { OnOk result (write_errors self.new ≡ write_errors self.old) }
+        ensures ok_without_fault { OnOk result (write_errors self.new ≡ write_errors self.old) }
         ensures failed_errors { OnErr result
             (write_errors self.new ≡ counted_on (write_errors self.old) 1) }
 
@@ -105,7 +113,7 @@ impl<W: Write> Sink for StdSink<W> {
     /// Flushes the writer. Each error is a fault.
     fn flush(&mut self) -> Result<(), Failed>
         ensures bytes { Keeps (W.contents (writer_of self.old)) (W.contents (writer_of self.new)) }
-        ensures errors { OnOk result (write_errors self.new ≡ write_errors self.old) }
+        ensures ok_without_fault { OnOk result (write_errors self.new ≡ write_errors self.old) }
         ensures failed_errors { OnErr result
             (write_errors self.new ≡ counted_on (write_errors self.old) 1) }
 

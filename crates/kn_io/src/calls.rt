@@ -1,3 +1,9 @@
+//! The calls of a device that fails some of them.
+//!
+//! Owned by the device; only `count` changes it, once in each call of the device. Between any two
+//! calls it has counted those made and those that were faults (`after_call` and `after_fault` in
+//! `specs/CallLog.antt`).
+
 ghost use Rattle.std.specs.Prelude.{◌≡◌, ◌↔◌, IsTrue, IfOk, if◌then◌else◌};
 ghost use Rattle.kn_io.specs.Counts.{NeverFalls};
 ghost use Rattle.kn_io.specs.CallLog.{new_log, NextFails, after_call, after_fault};

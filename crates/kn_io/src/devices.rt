@@ -1,4 +1,4 @@
-ghost use Rattle.std.specs.Prelude.{◌≡◌, ◌↔◌, ℕ, ◌<◌, ◌≤◌, List, [], length, take, Option, IfSome, IfOk, OnErr};
+ghost use Rattle.std.specs.Prelude.{◌≡◌, ◌↔◌, ℕ, ◌<◌, ◌≤◌, List, [], length, take, Option, IfSome, IfOk, OnOk, OnErr};
 ghost use Rattle.kn_io.specs.Counts.{NeverFalls, Rose};
 ghost use Rattle.kn_io.specs.Told.{Gives, Appends};
 
@@ -26,6 +26,7 @@ pub trait Source {
         ensures end { IfOk result (λ n. IfSome (left self.old) (λ bytes. (n ≡ 0) ↔ (bytes ≡ []))) }
 
         ensures failed_gives_none { OnErr result (left self.new ≡ left self.old) }
+        ensures ok_without_fault { OnOk result (faults self.new ≡ faults self.old) }
         ensures failed_only_where_rose { OnErr result (Rose (faults self.old) (faults self.new)) }
         ensures count { NeverFalls (faults self.old) (faults self.new) };
 }
@@ -33,10 +34,15 @@ pub trait Source {
 /// Where bytes go.
 ///
 /// `held` are the bytes that went there, where the sink tells them, and `faults` counts its faults.
+/// `is_flushed` is what a flush brings about: all that was taken is where it goes. A sink that does
+/// not tell it says that it always holds, but whoever writes to any sink can learn it from `flush`
+/// alone.
 pub trait Sink {
     ghost held: { Self → Option (List ℕ) };
 
     ghost faults: { Self → ℕ };
+
+    ghost is_flushed: { Self → Type 0 };
 
     /// Takes the first bytes of `bytes`, and answers how many. To take none of a piece that is not
     /// empty is a fault.
@@ -47,12 +53,15 @@ pub trait Sink {
             Appends (held self.old) (held self.new) (take n bytes.now)) }
 
         ensures failed_takes_none { OnErr result (held self.new ≡ held self.old) }
+        ensures ok_without_fault { OnOk result (faults self.new ≡ faults self.old) }
         ensures failed_only_where_rose { OnErr result (Rose (faults self.old) (faults self.new)) }
         ensures count { NeverFalls (faults self.old) (faults self.new) };
 
     /// Brings what was taken to where it goes.
     fn flush(&mut self) -> Result<(), Failed>
         ensures held { held self.new ≡ held self.old }
+        ensures flushed { OnOk result (is_flushed self.new) }
+        ensures ok_without_fault { OnOk result (faults self.new ≡ faults self.old) }
         ensures failed_only_where_rose { OnErr result (Rose (faults self.old) (faults self.new)) }
         ensures count { NeverFalls (faults self.old) (faults self.new) };
 }

@@ -1,3 +1,9 @@
+//! Devices in memory of which some calls fail.
+//!
+//! A source owns its bytes, and a sink the bytes that it took; only their calls change them. Between
+//! any two calls a sink has reserved its whole room, so that no write of it wants memory, and holds
+//! no more than that (the `invariant` of `MemSink`).
+
 ghost use Rattle.std.specs.Prelude.{◌≡◌, ◌↔◌, ◌⊎◌, ◌<◌, ◌≤◌, [], ◌++◌, length, take, Some, IfOk, OnOk, OnErr, IsErr};
 ghost use Rattle.kn_io.specs.Counts.{NeverFalls, Rose};
 ghost use Rattle.kn_io.specs.Told.{Gives};
@@ -71,6 +77,8 @@ impl Source for MemSource {
         ensures gives { IfOk result (λ n.
             Gives (Some self.old.supply.left) (Some self.new.supply.left) (take n buf.new)) }
         ensures end { IfOk result (λ n. (n ≡ 0) ↔ (self.old.supply.left ≡ [])) }
+        ensures ok_without_fault { OnOk result
+            (self.new.calls.faults ≡ self.old.calls.faults) }
         ensures failed_only_where_rose { OnErr result
             (Rose self.old.calls.faults self.new.calls.faults) }
         ensures count { NeverFalls self.old.calls.faults self.new.calls.faults }
@@ -149,6 +157,8 @@ impl Sink for MemSink {
 
     ghost faults = { λ s. s.calls.faults };
 
+    ghost is_flushed = { λ _. Unit {0} };
+
     /// Takes as many bytes as `piece` and the room left allow. A full sink fails to take a piece
     /// that is not empty. A call that fails takes none.
     fn write(&mut self, bytes: &[u8]) -> Result<usize, Failed>
@@ -164,6 +174,8 @@ impl Sink for MemSink {
 
         // What the trait says.
         ensures some { IfOk result (λ n. 0 < length bytes.now → 0 < n) }
+        ensures ok_without_fault { OnOk result
+            (self.new.calls.faults ≡ self.old.calls.faults) }
         ensures failed_only_where_rose { OnErr result
             (Rose self.old.calls.faults self.new.calls.faults) }
         ensures count { NeverFalls self.old.calls.faults self.new.calls.faults }
@@ -188,6 +200,8 @@ impl Sink for MemSink {
             (self.new ≡ record self.old { calls = after_fault self.old.calls }) }
 
         // What the trait says.
+        ensures ok_without_fault { OnOk result
+            (self.new.calls.faults ≡ self.old.calls.faults) }
         ensures failed_only_where_rose { OnErr result
             (Rose self.old.calls.faults self.new.calls.faults) }
         ensures count { NeverFalls self.old.calls.faults self.new.calls.faults }

@@ -1,3 +1,9 @@
+//! Devices that never fail.
+//!
+//! A source owns its bytes and the place up to which they were given; only `give` moves it. Between
+//! any two calls that place is within the bytes, and a call gives or takes at least one byte where
+//! there is one (the `invariant` of each).
+
 ghost use Rattle.std.specs.Prelude.{◌≡◌, ◌↔◌, ◌<◌, [], length, take, min, Some, None, IfOk, IsOk};
 ghost use Rattle.kn_io.specs.Told.{Gives};
 ghost use Rattle.kn_io.specs.States.{given_count, without_first, filled, with_taken};
@@ -114,6 +120,8 @@ impl Sink for SafeSink {
     ghost held = { λ _. None };
 
     ghost faults = { λ _. 0 };
+
+    ghost is_flushed = { λ _. Unit {0} };
 
     /// Takes as many bytes as `piece` allows, and never fails.
     fn write(&mut self, bytes: &[u8]) -> Result<usize, Failed>

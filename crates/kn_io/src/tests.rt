@@ -47,19 +47,19 @@ impl Write for TakesThree {
     }
 }
 
-// The bytes of the next call of a source, or `None` where it failed.
-fn next_piece(alloc: Global, source: &mut MemSource) -> Result<Option<Vec<u8>>, AllocError> {
+// Whether the next call of the source gives this piece, or fails where there is none.
+fn gives(source: &mut MemSource, piece: Option<&[u8]>) -> bool {
     let mut buf = [0; 16];
-    match source.read(&mut buf) {
-        Ok(n) => Ok(Some(Vec::from_slice(alloc, &buf[..n])?)),
-        Err(Failed) => Ok(None),
+    match (source.read(&mut buf), piece) {
+        (Ok(n), Some(piece)) => &buf[..n] == piece,
+        (Err(Failed), None) => true,
+        _ => false,
     }
 }
 
 #[test]
 fn a_source_fails_the_calls_told(rt: HostRuntime) -> Result<(), Fail> {
-    let alloc = rt.alloc();
-    let mut source = MemSource::open(alloc, TWENTY, 8, &[2])?;
+    let mut source = MemSource::open(rt.alloc(), TWENTY, 8, &[2])?;
     let pieces: [Option<&[u8]>; 5] = [
         Some(b"01234567"),
         None,
@@ -68,8 +68,7 @@ fn a_source_fails_the_calls_told(rt: HostRuntime) -> Result<(), Fail> {
         Some(b""),
     ];
     for piece in pieces {
-        let next = next_piece(alloc, &mut source)?;
-        assert_eq!(rt; next.as_deref(), piece);
+        assert!(rt; gives(&mut source, piece));
     }
     Ok(())
 }
@@ -94,96 +93,89 @@ fn a_sink_fails_the_calls_told(rt: HostRuntime) -> Result<(), Fail> {
     ];
     for (room, failing, held, fails) in rows {
         let (bytes, failed) = twenty_to(rt.alloc(), room, &[failing])?;
-        assert_eq!(rt; failed, fails, "room {room}, failing {failing}");
-        assert_eq!(rt; bytes.len(), held, "room {room}, failing {failing}");
         assert!(rt;
-            TWENTY.starts_with(&bytes),
+            failed == fails && bytes.len() == held && TWENTY.starts_with(&bytes),
             "room {room}, failing {failing}"
         );
     }
-    Ok(())
-}
-
-#[test]
-fn a_sink_that_failed_goes_on(rt: HostRuntime) -> Result<(), Fail> {
+    // A sink that failed goes on.
     let mut sink = MemSink::open(rt.alloc(), 4, 8, &[1])?;
-    assert_eq!(rt; sink.write(b"ab"), Err(Failed));
-    assert_eq!(rt; sink.write(b"cdefg"), Ok(4));
-    assert_eq!(rt; sink.write(b""), Ok(0));
-    assert_eq!(rt; sink.write(b"h"), Err(Failed));
-    assert_eq!(rt; sink.flush(), Ok(()));
-    assert_eq!(rt; sink.held(), &b"cdef"[..]);
+    let calls: [(&[u8], Result<usize, Failed>); 4] = [
+        (b"ab", Err(Failed)),
+        (b"cdefg", Ok(4)),
+        (b"", Ok(0)),
+        (b"h", Err(Failed)),
+    ];
+    for (piece, answer) in calls {
+        assert!(rt; sink.write(piece) == answer);
+    }
+    assert!(rt; sink.flush() == Ok(()) && sink.held() == b"cdef".as_slice());
     Ok(())
 }
 
-// The answer of a read of five bytes, which are three lines, in pieces of 2.
-fn three_lines(alloc: Global, limit: u16) -> Result<Result<Vec<u8>, ReadEnd>, AllocError> {
+// Whether a read of five bytes, which are three lines, in pieces of 2, ends at this line, or gives
+// all bytes where there is none.
+fn ends_at(alloc: Global, limit: u16, line: Option<u32>) -> Result<bool, AllocError> {
     let mut source = MemSource::open(alloc, b"a\nb\nc", 2, &[9])?;
-    Ok(read_all(alloc, &mut source, u32::from(limit)))
+    Ok(match read_all(alloc, &mut source, u32::from(limit)) {
+        Ok(text) => line.is_none() && text.as_slice() == b"a\nb\nc".as_slice(),
+        Err(ReadEnd::TooLong { line: last }) => line == Some(last),
+        Err(_) => false,
+    })
 }
 
 #[test]
 fn a_read_to_the_end_keeps_to_its_limit(rt: HostRuntime) -> Result<(), Fail> {
-    for (limit, line) in [(0, 1), (1, 1), (2, 2), (3, 2), (4, 3)] {
-        let end = three_lines(rt.alloc(), limit)?.err();
-        assert_eq!(rt; end, Some(ReadEnd::TooLong { line }), "limit {limit}");
+    let rows = [
+        (0, Some(1)),
+        (1, Some(1)),
+        (2, Some(2)),
+        (3, Some(2)),
+        (4, Some(3)),
+        (5, None),
+        (6, None),
+        (65_535, None),
+    ];
+    for (limit, line) in rows {
+        assert!(rt; ends_at(rt.alloc(), limit, line)?, "limit {limit}");
     }
-    for limit in [5, 6, 65_535] {
-        let all = three_lines(rt.alloc(), limit)??;
-        assert_eq!(rt; all.as_slice(), &b"a\nb\nc"[..], "limit {limit}");
+    Ok(())
+}
+
+// Whether a read to the end gives this text, or finds that the source failed where there is none.
+fn comes<S: Source>(alloc: Global, source: &mut S, text: Option<&[u8]>) -> bool {
+    match (read_all(alloc, source, 20), text) {
+        (Ok(all), Some(text)) => all.as_slice() == text,
+        (Err(ReadEnd::Failed), None) => true,
+        _ => false,
     }
-    Ok(())
 }
 
 #[test]
-fn a_read_to_the_end_can_go_on(rt: HostRuntime) -> Result<(), Fail> {
+fn sources_are_read_to_the_end(rt: HostRuntime) -> Result<(), Fail> {
     let alloc = rt.alloc();
-    let mut source = MemSource::open(alloc, TWENTY, 8, &[2])?;
-    assert_eq!(rt;
-        read_all(alloc, &mut source, 20).err(),
-        Some(ReadEnd::Failed)
-    );
-    let rest = read_all(alloc, &mut source, 20)?;
-    assert_eq!(rt; rest.as_slice(), &b"89abcdefghij"[..]);
-    Ok(())
-}
-
-#[test]
-fn what_is_safe_never_fails(rt: HostRuntime) -> Result<(), Fail> {
-    let alloc = rt.alloc();
-    let mut source = SafeSource::open(alloc, TWENTY, 7)?;
-    let text = read_all(alloc, &mut source, 20)?;
-    assert_eq!(rt; text.as_slice(), TWENTY);
-    let mut sink = SafeSink::open(7);
-    assert_eq!(rt; write_all(&mut sink, &text), Ok(()));
-    assert_eq!(rt; sink.taken(), 20);
-    Ok(())
-}
-
-#[test]
-fn a_reader_of_std(rt: HostRuntime) -> Result<(), Fail> {
-    let alloc = rt.alloc();
-    let text = read_all(alloc, &mut StdSource::new(TWENTY), 20)?;
-    assert_eq!(rt; text.as_slice(), TWENTY);
+    let mut memory = MemSource::open(alloc, TWENTY, 8, &[2])?;
     let mut once = StdSource::new(FailsOnce { calls: 0 });
-    assert_eq!(rt; read_all(alloc, &mut once, 20).err(), Some(ReadEnd::Failed));
-    assert_eq!(rt; read_all(alloc, &mut once, 20)?.len(), 4);
-    assert_eq!(rt;
-        format!(in alloc; "{Failed}")?.as_str(),
-        "the device failed"
-    );
+    // A source that failed goes on.
+    assert!(rt; comes(alloc, &mut memory, None) && comes(alloc, &mut once, None));
+    assert!(rt; comes(alloc, &mut memory, Some(b"89abcdefghij")));
+    assert!(rt; comes(alloc, &mut once, Some(b"3\0\0\0")));
+    let mut safe = SafeSource::open(alloc, TWENTY, 7)?;
+    let mut slice = StdSource::new(TWENTY);
+    assert!(rt; comes(alloc, &mut safe, Some(TWENTY)) && comes(alloc, &mut slice, Some(TWENTY)));
     Ok(())
 }
 
 #[test]
-fn a_writer_of_std(rt: HostRuntime) -> Result<(), Fail> {
+fn sinks_are_written_to(rt: HostRuntime) -> Result<(), Fail> {
+    let mut safe = SafeSink::open(7);
+    assert!(rt; write_all(&mut safe, TWENTY).is_ok() && safe.taken() == 20);
     let mut written = Vec::new(rt.alloc());
-    assert_eq!(rt; write_all(&mut StdSink::new(&mut written), TWENTY), Ok(()));
-    assert_eq!(rt; written.as_slice(), TWENTY);
+    let ok = write_all(&mut StdSink::new(&mut written), TWENTY).is_ok();
+    assert!(rt; ok && written.as_slice() == TWENTY);
     let mut three = StdSink::new(TakesThree { left: 3 });
-    assert_eq!(rt; three.flush(), Err(Failed));
-    assert_eq!(rt; three.write(b"ab"), Ok(2));
-    assert_eq!(rt; write_all(&mut three, b"cd"), Err(Failed));
-    assert_eq!(rt; three.write(b""), Ok(0));
+    assert!(rt; three.flush() == Err(Failed) && three.write(b"ab") == Ok(2));
+    assert!(rt; write_all(&mut three, b"cd") == Err(Failed) && three.write(b"") == Ok(0));
+    assert!(rt; format!(in rt.alloc(); "{Failed}")?.as_str() == "the device failed");
     Ok(())
 }

@@ -1,14 +1,15 @@
-ghost use Rattle.std.specs.Prelude.{◌≡◌, ◌+◌, ◌-◌, ◌^◌, ◌<◌, ◌≤◌, length, IsErr, IfSome, IfOk, OnOk, OnErr, IfErr};
+ghost use Rattle.std.specs.Prelude.{◌≡◌, ◌+◌, ◌-◌, ◌^◌, ◌<◌, ◌≤◌, ◌++◌, length, vec_len, IsErr, IfSome, IfOk, OnOk, OnErr, IfErr};
 ghost use Rattle.kn_io.specs.Counts.{NeverFalls, Rose};
-ghost use Rattle.kn_io.specs.Told.{GivesSome, GivesAll, Appends, AppendsPrefix};
-ghost use Rattle.kn_io.specs.Ends.{line_feed_count, OnFailed, IfTooLong, PassesLimit};
+ghost use Rattle.kn_io.specs.Told.{GivesAtMost, GivesAll, Appends, AppendsPrefix};
+ghost use Rattle.kn_io.specs.Ends.{most_given, OnFailed, UnlessFailed, IfTooLong, PassesLimit};
 
 use crate::devices::{Failed, Sink, Source};
+use kn_base::line_after;
 use std::alloc::Global;
 use thiserror::Error;
 
 /// Why a read to the end did not come to it.
-#[derive(Clone, Copy, Debug, PartialEq, Eq, Error)]
+#[derive(Clone, Copy, Debug, Error)]
 pub enum ReadEnd {
     #[error("the source failed")]
     Failed,
@@ -18,19 +19,40 @@ pub enum ReadEnd {
     Memory,
 }
 
-const BUFFER: usize = 8192;
+/// The most bytes that `read_all` asks for in one read.
+pub const BUFFER: usize = 8192;
 
-/// How many of the bytes are line feeds.
-fn line_feeds(bytes: &[u8]) -> usize
-    ensures { result ≡ line_feed_count bytes.now }
+/// Puts a piece behind a text, where both together keep to the limit.
+fn keep(text: &mut Vec<u8>, piece: &[u8], limit: u32) -> Result<(), ReadEnd>
+    requires limit { limit < 2 ^ 32 - 1 }
+    requires within { vec_len text.old ≤ limit }
+    requires piece { length piece.now ≤ BUFFER }
+    ensures kept { OnOk result (text.new.items ≡ text.old.items ++ piece.now) }
+    ensures within { OnOk result (vec_len text.new ≤ limit) }
+    ensures more { OnOk result (vec_len text.new ≡ vec_len text.old + length piece.now) }
+    ensures too_long { IfErr result (λ end. IfTooLong end (λ line.
+        PassesLimit limit (text.old.items ++ piece.now) line)) }
+    ensures most { IfErr result (λ end.
+        length (text.old.items ++ piece.now) ≤ most_given limit end) }
+    ensures never_failed { IfErr result (λ end. OnFailed end ⊥) }
 {
-    bytes.iter().filter(|byte| **byte == b'\n').count()
+    let room = limit as usize - text.len();
+    if piece.len() > room {
+        let line = line_after(text) + (line_after(&piece[..room]) - 1);
+        return Err(ReadEnd::TooLong { line });
+    }
+    match text.extend_from_slice(piece) {
+        Ok(()) => Ok(()),
+        Err(_) => Err(ReadEnd::Memory),
+    }
 }
 
 /// All bytes that the source gives, up to its end. At most `limit` of them are kept.
 ///
 /// The answer is `TooLong` where a byte past `limit` comes. Its line is the one that the bytes up
-/// to `limit` have reached: 1, and 1 more for each line feed among them.
+/// to `limit` have reached: 1, and 1 more for each line feed among them. With each answer that is
+/// not Ok at most `limit` bytes were taken from the source, and with `TooLong` at most `BUFFER`
+/// more. The source was not called again behind a fault.
 pub fn read_all<S: Source>(alloc: Global, source: &mut S, limit: u32) -> Result<Vec<u8>, ReadEnd>
     requires { limit < 2 ^ 32 - 1 }
     ensures all { IfOk result (λ text.
@@ -43,10 +65,14 @@ pub fn read_all<S: Source>(alloc: Global, source: &mut S, limit: u32) -> Result<
     ensures longer_is_err { IfSome (S.left source.old) (λ bytes.
         limit < length bytes → IsErr result) }
     ensures line { IfErr result (λ end. IfTooLong end (λ line. (1 ≤ line) × (line ≤ limit + 1))) }
+    ensures err_gives { IfErr result (λ end.
+        GivesAtMost (most_given limit end) (S.left source.old) (S.left source.new)) }
 
+    ensures ok_without_fault { OnOk result (S.faults source.new ≡ S.faults source.old) }
     ensures failed_only_where_rose { IfErr result (λ end. OnFailed end
         (Rose (S.faults source.old) (S.faults source.new))) }
-    ensures err_gives_some { OnErr result (GivesSome (S.left source.old) (S.left source.new)) }
+    ensures other_without_fault { IfErr result (λ end. UnlessFailed end
+        (S.faults source.new ≡ S.faults source.old)) }
     ensures count { NeverFalls (S.faults source.old) (S.faults source.new) }
 {
     let mut text = Vec::new(alloc);
@@ -59,26 +85,18 @@ pub fn read_all<S: Source>(alloc: Global, source: &mut S, limit: u32) -> Result<
         if n == 0 {
             return Ok(text);
         }
-        let piece = &buffer[..n];
-        let room = limit as usize - text.len();
-        if n > room {
-            let feeds = line_feeds(&text) + line_feeds(&piece[..room]);
-            return Err(ReadEnd::TooLong {
-                line: feeds as u32 + 1,
-            });
-        }
-        if text.extend_from_slice(piece).is_err() {
-            return Err(ReadEnd::Memory);
-        }
+        keep(&mut text, &buffer[..n], limit)?;
     }
 }
 
-/// Writes all bytes, and flushes.
+/// Writes all bytes, and flushes. The sink is not called again behind a fault.
 pub fn write_all<K: Sink>(sink: &mut K, bytes: &[u8]) -> Result<(), Failed>
     ensures all { OnOk result (Appends (K.held sink.old) (K.held sink.new) bytes.now) }
+    ensures flushed { OnOk result (K.is_flushed sink.new) }
 
     ensures failed_prefix { OnErr result
         (AppendsPrefix (K.held sink.old) (K.held sink.new) bytes.now) }
+    ensures ok_without_fault { OnOk result (K.faults sink.new ≡ K.faults sink.old) }
     ensures failed_only_where_rose { OnErr result (Rose (K.faults sink.old) (K.faults sink.new)) }
     ensures count { NeverFalls (K.faults sink.old) (K.faults sink.new) }
 {

@@ -3,7 +3,8 @@ use Rattle.std.specs.Prelude.{ℕ, ◌≤◌, List, [], ◌∷◌, Option, All, 
 use Rattle.std.specs.Option.{option_or}
 use Rattle.kn_base.specs.declared.numbers.Span.{Span}
 use Rattle.kn_base.specs.Spans.{IsSpan, LiesIn, AreApart}
-use Rattle.kn_ranges.specs.SpanLists.{first_fit, spans_from, put_in}
+use Rattle.kn_ranges.specs.FreeSpans.{FreeSpans, page_room}
+use Rattle.kn_base.specs.SpanLists.{IsFreeListOf, first_fit, spans_from, put_in}
 
 -- the frame's span, the free spans in order, the address from which the next span is looked for, and how many
 -- free spans there is room for
@@ -14,8 +15,8 @@ pub record NextFitState : Type 0 where
   pub room : ℕ
 
 -- all words of the frame are free, and the cursor is its start
-abbrev pub whole_page : Span → ℕ → NextFitState
-whole_page frame room = record { frame = frame; spans = frame ∷ []; cursor = frame.start; room = room }
+abbrev pub whole_next_fit_page : Span → ℕ → NextFitState
+whole_next_fit_page frame room = record { frame = frame; spans = frame ∷ []; cursor = frame.start; room = room }
 
 -- among the spans whose start is at or after the cursor, the first with n words; if there is none, the first of
 -- all spans with n words
@@ -35,3 +36,9 @@ HasRoomAfter page cell = length (put_in cell page.spans) ≤ page.room
 -- the spans lie in the frame, and there is room for them
 abbrev pub CanHold : NextFitState → List Span → Type 0
 CanHold page spans = All (λ span. LiesIn span page.frame) spans × (length spans ≤ page.room)
+
+-- what a page keeps: its free spans lie in its frame, and there is room for as many as cells of 2 words ask for
+pub record IsNextFit (frame : Span) (free : FreeSpans) : Type 0 where
+  pub span : IsSpan frame
+  pub list : IsFreeListOf frame free.spans
+  pub room : page_room frame ≤ free.room

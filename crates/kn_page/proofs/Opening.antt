@@ -1,16 +1,15 @@
 -- The pages that were opened so far.
-use Rattle.std.proofs.Common.{ℕ, zero, suc, ◌+◌, ◌<◌, ◌≤◌, ◌≡◌, List, [], ◌∷◌, ◌++◌, Some, length, length-append, refl, ap, sym, ◌∙◌, inl, inr, arith}
+use Rattle.std.proofs.Common.{ℕ, zero, suc, ◌+◌, ◌<◌, ◌≤◌, ◌≡◌, List, [], ◌∷◌, ◌++◌, Some, None, length, length-append, refl, ap, sym, ◌∙◌, inl, inr, arith}
 use Rattle.std.specs.Prelude.{slice_get}
 use Rattle.std.specs.Option.{option_map}
 use Rattle.std.proofs.lemmas.Bool.{cases_lt}
 use Rattle.std.proofs.lemmas.Option.{slice_get_past}
 use Rattle.kn_base.specs.declared.heap.Sizes.{Sizes}
-use Rattle.kn_base.specs.Pages.{whole_page}
-use Rattle.kn_base.specs.Sizes.{frame_count}
+use Rattle.kn_base.specs.Pages.{whole_view}
+use Rattle.kn_base.specs.Sizes.{span_of_frame}
 use Rattle.kn_page.specs.declared.page.Page.{Page}
 use Rattle.kn_page.specs.PageViews.{page_view}
-use Rattle.kn_page.specs.Opened.{AreFirstPages, first_class, first_view}
-use Rattle.kn_page.proofs.Frames.{frame_past}
+use Rattle.kn_page.specs.Opened.{AreFirstBelow, AreFirstPages, first_class, first_view}
 
 -- an element before the last one stands where it stood
 got_before : (xs : List Page) (y : Page) (p : ℕ) → p < length xs → slice_get (xs ++ y ∷ []) p ≡ slice_get xs p
@@ -25,12 +24,9 @@ got_last [] y (suc p) e = absurd (omega arith)
 got_last (x ∷ xs) y zero e = absurd (omega arith)
 got_last (x ∷ xs) y (suc p) e = got_last xs y p (omega arith)
 
--- the first n pages are those of the heap at its start
-abbrev pub AreFirstBelow : Sizes → ℕ → List Page → Type 0
-AreFirstBelow z n pages = (length pages ≡ n) × ((p : ℕ) → p < n → option_map page_view (slice_get pages p) ≡ first_view z p)
-
 -- one more page at the end
-pub first_pages_more : (z : Sizes) (n : ℕ) (pages : List Page) (page : Page) → AreFirstBelow z n pages → Some (page_view page) ≡ first_view z n → AreFirstBelow z (n + 1) (pages ++ page ∷ [])
+pub first_pages_more : (z : Sizes) (n : ℕ) (pages : List Page) (page : Page) → AreFirstBelow z n pages → Some (page_view page) ≡ first_view z n
+    → AreFirstBelow z (n + 1) (pages ++ page ∷ [])
 first_pages_more z n pages page below at = (
   simp length-append (omega (arith, below.0)),
   λ p h. elim (cases_lt p n) [
@@ -42,9 +38,12 @@ first_pages_more z n pages page below at = (
 )
 
 -- all pages
-pub first_pages_all : (z : Sizes) (n : ℕ) (pages : List Page) → frame_count z ≤ n → AreFirstBelow z n pages → AreFirstPages z pages
-first_pages_all z n pages h below p =
+pub first_pages_all : (z : Sizes) (n : ℕ) (pages : List Page) → ((p : ℕ) → n ≤ p → span_of_frame z p ≡ None) → AreFirstBelow z n pages
+    → AreFirstPages z pages
+first_pages_all z n pages past below p =
     elim (cases_lt p n) [
       | inl less ↦ below.1 p less
-      | inr more ↦ ap (option_map page_view) (slice_get_past pages p (omega (arith, below.0))) ∙ ap (option_map (whole_page (first_class z p))) (sym (frame_past z p (omega arith)))
+      | inr more ↦
+          let no_page = slice_get_past pages p (omega (arith, below.0)) in
+          ap (option_map page_view) no_page ∙ ap (option_map (whole_view (first_class z p))) (sym (past p more))
     ]

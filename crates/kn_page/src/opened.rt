@@ -1,12 +1,12 @@
 ghost use Rattle.std.specs.Prelude.{◌≡◌, ℕ, ◌<◌, IfOk, Some};
-ghost use Rattle.kn_base.specs.Pages.{whole_page};
+ghost use Rattle.kn_base.specs.Pages.{whole_view};
 ghost use Rattle.kn_base.specs.Sizes.{IsGood, frame_count, span_of_frame};
 ghost use Rattle.kn_base.specs.Spans.{IsSpan};
 ghost use Rattle.kn_page.specs.Opened.{AreFirstPages, first_class};
 ghost use Rattle.kn_page.specs.PageViews.{page_view};
 
 use crate::page::Page;
-use kn_base::{FrameNo, Sizes, Span};
+use kn_base::{FrameNo, LEAST_CELL, Sizes, Span, frames_lie};
 use kn_extra::ExtraPage;
 use kn_fixed::FixedPage;
 use kn_single::SinglePage;
@@ -18,6 +18,7 @@ pub fn open_pages(alloc: Global, sizes: &Sizes) -> Result<Vec<Page>, AllocError>
     requires { IsGood sizes.now }
     ensures { IfOk result (λ pages. AreFirstPages sizes.now pages.items) }
 {
+    frames_lie();
     let mut pages = Vec::new(alloc);
     for number in 0..sizes.frames() {
         let span = frame_span(sizes, number);
@@ -38,10 +39,10 @@ fn frame_span(sizes: &Sizes, number: u32) -> Span
 fn open_page(alloc: Global, sizes: &Sizes, number: u32, span: Span) -> Result<Page, AllocError>
     requires sizes { IsGood sizes.now }
     requires span { IsSpan span }
-    ensures { IfOk result (λ page. page_view page ≡ whole_page (first_class sizes.now number) span) }
+    ensures { IfOk result (λ page. page_view page ≡ whole_view (first_class sizes.now number) span) }
 {
     if number < sizes.small {
-        Ok(Page::Fixed(FixedPage::open(alloc, span, 2)?))
+        Ok(Page::Fixed(FixedPage::open(alloc, span, u32::from(LEAST_CELL))?))
     } else if number < sizes.small + sizes.large {
         Ok(Page::Single(SinglePage::open(alloc, span)?))
     } else {

@@ -1,24 +1,17 @@
 ghost use Rattle.std.specs.Prelude.{◌≡◌, ◌↔◌, ℕ, ◌≤◌, Any, IsTrue};
-ghost use Rattle.kn_base.specs.Pages.{IsWholePage, whole_page};
-ghost use Rattle.kn_base.specs.Sizes.{Between};
+ghost use Rattle.kn_base.specs.Pages.{IsWholePage, whole_view};
 ghost use Rattle.kn_base.specs.Spans.{IsSpan};
-ghost use Rattle.kn_page.specs.Classes.{HasRoom, ShareArea, least_request};
+ghost use Rattle.kn_page.specs.Classes.{HasRoom, IsSmallClass, ShareArea, least_request};
 ghost use Rattle.kn_page.specs.PageViews.{page_view};
 ghost use Rattle.kn_ranges.specs.FreeSpans.{page_room};
-ghost use Rattle.kn_ranges.specs.SpanLists.{IsWhollyFree};
+ghost use Rattle.kn_base.specs.SpanLists.{IsWhollyFree};
 
-use kn_base::{FrameKind, FramePage, Home, Span};
-use kn_extra::ExtraPage;
+use kn_base::{FrameKind, FramePage, Home, NEXT_FIT_CLASS, PageClass, Span};
+use kn_extra::{EXTRA_CELL, ExtraPage};
 use kn_fixed::FixedPage;
 use kn_nextfit::NextFitPage;
 use kn_ranges::Ranges;
 use kn_single::SinglePage;
-
-const NEXT_FIT: u16 = 33;
-
-const SINGLE: u16 = 34;
-
-const EXTRA: u16 = 35;
 
 /// A page of any class.
 ///
@@ -48,9 +41,9 @@ impl FramePage for Page {
     fn class(&self) -> u16 {
         match self {
             Page::Fixed(page) => page.words() as u16,
-            Page::NextFit(_) => NEXT_FIT,
-            Page::Single(_) => SINGLE,
-            Page::Extra(_) => EXTRA,
+            Page::NextFit(_) => PageClass::NextFit.number(),
+            Page::Single(_) => PageClass::Single.number(),
+            Page::Extra(_) => PageClass::Extra.number(),
         }
     }
 
@@ -90,7 +83,7 @@ impl Page {
     pub fn remake(self, class: u16) -> Page
         requires free { IsWholePage (page_view self) }
         requires area { ShareArea (page_view self).class class }
-        ensures { page_view result ≡ whole_page class (page_view self).frame }
+        ensures { page_view result ≡ whole_view class (page_view self).frame }
     {
         let frame = self.frame();
         match self {
@@ -134,9 +127,9 @@ impl Page {
     {
         match self {
             Page::Fixed(page) => has_span(page.spans(), page.words()),
-            Page::NextFit(page) => has_span(page.spans(), u32::from(NEXT_FIT)),
+            Page::NextFit(page) => has_span(page.spans(), u32::from(NEXT_FIT_CLASS)),
             Page::Single(_) => false,
-            Page::Extra(page) => has_span(page.spans(), 2),
+            Page::Extra(page) => has_span(page.spans(), EXTRA_CELL),
         }
     }
 
@@ -144,10 +137,10 @@ impl Page {
         requires span { IsSpan frame }
         requires free { IsWhollyFree frame ranges.spans }
         requires room { page_room frame ≤ ranges.room }
-        requires class { Between 2 33 class }
-        ensures { page_view result ≡ whole_page class frame }
+        requires class { IsSmallClass class }
+        ensures { page_view result ≡ whole_view class frame }
     {
-        if class == NEXT_FIT {
+        if class == NEXT_FIT_CLASS {
             Page::NextFit(NextFitPage::over(ranges, frame))
         } else {
             Page::Fixed(FixedPage::over(ranges, frame, u32::from(class)))

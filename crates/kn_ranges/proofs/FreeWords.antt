@@ -3,7 +3,7 @@ use Rattle.std.proofs.Common.{ℕ, ◌+◌, ◌<◌, ◌≤◌, List, [], ◌∷
 use Rattle.std.proofs.lemmas.List.Sums.{sum_by-cons}
 use Rattle.kn_base.specs.declared.numbers.Span.{Span}
 use Rattle.kn_base.specs.Spans.{end_of}
-use Rattle.kn_ranges.specs.SpanLists.{StandApart, free_word_count}
+use Rattle.kn_base.specs.SpanLists.{StandApart, free_word_count}
 
 -- spans that stand apart have no more words than lie between their bounds
 pub free_words_within : (low high : ℕ) (spans : List Span) → low ≤ high → StandApart low high spans → low + free_word_count spans ≤ high

@@ -1,4 +1,6 @@
+pub mod Slots
 pub mod Apart
+pub mod Order
 pub mod Taking
 pub mod Putting
 pub mod FreeWords

@@ -1,15 +1,17 @@
 -- The first span that fits, and the spans without the words of a cell.
-use Rattle.std.proofs.Common.{ℕ, ◌+◌, ◌-◌, ◌<◌, ◌≤◌, ◌≡◌, ◌⊎◌, ◌↔◌, List, [], ◌∷◌, ◌++◌, Some, None, All, IsNone, length, take, drop, slice_index_or, subst, min, max, refl, ap, sym, ◌∙◌, inl, inr, arith}
-use Rattle.std.specs.List.{AllByRecursion, HoldsAt}
+use Rattle.std.proofs.Common.{ℕ, suc, ◌+◌, ◌-◌, ◌<◌, ◌≤◌, ◌≡◌, ◌⊎◌, ◌↔◌, List, [], ◌∷◌, ◌++◌, append-nil, Some, None, All, IsNone, length, take, drop}
+use Rattle.std.proofs.Common.{slice_index_or, slice_set, subst, min, max, refl, ap, sym, ◌∙◌, inl, inr, arith}
+use Rattle.std.specs.List.{AllByRecursion, HoldsAt, remove}
 use Rattle.std.specs.Option.{is_some, option_map}
 use Rattle.std.proofs.lemmas.Bool.{lt-ltb, le-ltb, le-leb, lt-leb, cases_lt, true≢false}
 use Rattle.std.proofs.lemmas.Grind.{flat_map-append}
-use Rattle.std.proofs.lemmas.List.{length-append}
+use Rattle.std.proofs.lemmas.List.{set_split}
 use Rattle.std.proofs.lemmas.Option.{none-some, same_Some}
 use Rattle.std.proofs.lemmas.List.Elements.{All-from_recursion, recursion_from_All}
 use Rattle.kn_base.specs.declared.numbers.Span.{Span}
 use Rattle.kn_base.specs.Spans.{end_of, AreApart}
-use Rattle.kn_ranges.specs.SpanLists.{StandApart, first_fit, front_of, span_without, spans_from, without, words_between}
+use Rattle.kn_base.specs.SpanLists.{StandApart, first_fit, front_of, span_without, spans_from, without, words_between}
+use Rattle.kn_ranges.specs.Laws.{FrontsLeaveRests}
 use Rattle.kn_ranges.proofs.Apart.{apart_append, apart_within_wider, apart_before, apart_behind, begins_behind, ends_before, split_at}
 
 -- no words lie between a place and one that is not behind it
@@ -34,9 +36,14 @@ apart_between low high =
 -- a span that the cell leaves out stays whole
 pub span_without_apart : (cell span : Span) → 0 < span.len → AreApart cell span → span_without cell span ≡ span ∷ []
 span_without_apart cell span h (inl p) =
-    rw (words_between_none span.start (min (end_of span) cell.start) (omega arith)) (words_between_ends (max span.start (end_of cell)) (end_of span) span (omega arith) refl h)
+    rw (words_between_none span.start (min (end_of span) cell.start) (omega arith))
+    (words_between_ends (max span.start (end_of cell)) (end_of span) span (omega arith) refl h)
 span_without_apart cell span h (inr p) =
-    rw (words_between_none (max span.start (end_of cell)) (end_of span) (omega arith), words_between_ends span.start (min (end_of span) cell.start) span refl (omega arith) h)
+    rw (
+      words_between_none (max span.start (end_of cell)) (end_of span) (omega arith),
+      words_between_ends span.start (min (end_of span) cell.start) span
+          refl (omega arith) h,
+    )
 
 -- without its first n words, a span is the words behind them
 pub span_without_front : (n : ℕ) (span : Span) → n ≤ span.len → span_without (front_of n span) span ≡ words_between (span.start + n) (end_of span)
@@ -44,33 +51,56 @@ span_without_front n span h =
     rw (words_between_none span.start (min (end_of span) span.start) (omega arith))
     (ap (λ low. words_between low (end_of span)) (let e : max span.start (span.start + n) ≡ span.start + n = omega arith in e))
 
+-- and so is a list of that span alone
+pub without_front : FrontsLeaveRests
+without_front n span h = ap (λ spans. spans ++ []) (span_without_front n span h) ∙ append-nil (words_between (span.start + n) (end_of span))
+
 -- a cell that is apart from each span leaves the list as it is
 pub without-apart : (cell : Span) (spans : List Span) → AllByRecursion (λ span. (0 < span.len) × AreApart cell span) spans → without cell spans ≡ spans
 without-apart cell [] a = refl
 without-apart cell (s ∷ spans) a = rw (span_without_apart cell s a.0.0 a.0.1) (ap (λ z. s ∷ z) (without-apart cell spans a.1))
 
 -- the spans that end before a place are apart from a cell at it, and those that begin behind it are, too
-apart_from_before : (place : ℕ) (cell : Span) (spans : List Span) → place ≤ cell.start → AllByRecursion (λ span. (0 < span.len) × (end_of span < place)) spans → AllByRecursion (λ span. (0 < span.len) × AreApart cell span) spans
+apart_from_before : (place : ℕ) (cell : Span) (spans : List Span) → place ≤ cell.start
+    → AllByRecursion (λ span. (0 < span.len) × (end_of span < place)) spans → AllByRecursion (λ span. (0 < span.len) × AreApart cell span) spans
 apart_from_before place cell [] h a = tt
 apart_from_before place cell (s ∷ spans) h a = ((a.0.0, inr (omega (arith, a.0.1))), apart_from_before place cell spans h a.1)
 
-apart_from_behind : (place : ℕ) (cell : Span) (spans : List Span) → end_of cell ≤ place → AllByRecursion (λ span. (0 < span.len) × (place ≤ span.start)) spans → AllByRecursion (λ span. (0 < span.len) × AreApart cell span) spans
+apart_from_behind : (place : ℕ) (cell : Span) (spans : List Span) → end_of cell ≤ place
+    → AllByRecursion (λ span. (0 < span.len) × (place ≤ span.start)) spans → AllByRecursion (λ span. (0 < span.len) × AreApart cell span) spans
 apart_from_behind place cell [] h a = tt
 apart_from_behind place cell (s ∷ spans) h a = ((a.0.0, inl (omega (arith, a.0.1))), apart_from_behind place cell spans h a.1)
 
 -- without the first n words of one span the others stay
-pub without-front : (low high n : ℕ) (front : List Span) (span : Span) (back : List Span) → StandApart low high (front ++ span ∷ back) → n ≤ span.len → without (front_of n span) (front ++ span ∷ back) ≡ front ++ (words_between (span.start + n) (end_of span) ++ back)
+pub without-front : (low high n : ℕ) (front : List Span) (span : Span) (back : List Span) → StandApart low high (front ++ span ∷ back) → n ≤ span.len
+    → without (front_of n span) (front ++ span ∷ back) ≡ front ++ (words_between (span.start + n) (end_of span) ++ back)
 without-front low high n front span back a h =
     let cell : Span = front_of n span in
-    let before = without-apart cell front (apart_from_before span.start cell front (omega arith) (ends_before low span.start front (apart_before low high front span back a))) in
-    let behind = without-apart cell back (apart_from_behind (end_of span + 1) cell back (omega arith) (begins_behind (end_of span + 1) high back (apart_behind low high front span back a))) in
+    let before = without-apart cell front
+    (apart_from_before span.start cell front (omega arith) (ends_before low span.start front (apart_before low high front span back a))) in
+    let behind = without-apart cell back
+    (apart_from_behind (end_of span + 1) cell back (omega arith)
+    (begins_behind (end_of span + 1) high back (apart_behind low high front span back a))) in
     flat_map-append (span_without cell) front (span ∷ back) ∙ rw (before, behind, span_without_front n span h) refl
 
--- without the first n words of one span there are no more spans than before
-pub length-front : (front : List Span) (span : Span) (back : List Span) (low high : ℕ) → length (front ++ (words_between low high ++ back)) ≤ length (front ++ span ∷ back)
-length-front front span back low high =
-    let few : length (words_between low high) ≤ 1 = elim (cases_lt low high) [ inl h ↦ rw (lt-ltb low high h) (omega arith) | inr h ↦ rw (le-ltb low high h) (omega arith) ] in
-    omega (arith, length-append front (words_between low high ++ back), length-append (words_between low high) back, length-append front (span ∷ back))
+-- a span of n words left out is cut down to none
+pub cut_whole : (spans : List Span) (place n : ℕ) (span : Span) → span.len ≡ n
+    → remove spans place ≡ take place spans ++ (words_between (span.start + n) (end_of span) ++ drop (place + 1) spans)
+cut_whole spans place n span e =
+    let next : suc place ≡ place + 1 = omega arith in
+    rw (words_between_none (span.start + n) (end_of span) (omega arith), next) refl
+
+-- a longer one is cut down to the words behind its first n ones
+pub cut_part : (spans : List Span) (place n : ℕ) (span : Span) → place < length spans → n < span.len
+    → slice_set spans place (record { start = span.start + n; len = span.len - n }) ≡ take place
+    spans ++ (words_between (span.start + n) (end_of span) ++ drop (place + 1) spans)
+cut_part spans place n span within h =
+    let rest : Span = record { start = span.start + n; len = span.len - n } in
+    let next : suc place ≡ place + 1 = omega arith in
+    set_split spans place rest within
+    ∙ ap (λ m. take place spans ++ rest ∷ drop m spans) next
+    ∙ ap (λ z. take place spans ++ (z ++ drop (place + 1) spans))
+    (sym (words_between_ends (span.start + n) (end_of span) rest refl (omega arith) (omega arith)))
 
 -- a span without a cell stands apart within the span's bounds
 apart_span_without : (cell span : Span) → 0 < cell.len → StandApart span.start (end_of span + 1) (span_without cell span)
@@ -79,8 +109,10 @@ apart_span_without cell span h =
     let before = words_between span.start (min (end_of span) cell.start) in
     let behind = words_between (max span.start (end_of cell)) (end_of span) in
     apart_append span.start middle (end_of span + 1) before behind (omega arith) (omega arith)
-    (apart_within_wider span.start (min (end_of span) cell.start + 1) span.start middle before (omega arith) (omega arith) (apart_between span.start (min (end_of span) cell.start)))
-    (apart_within_wider (max span.start (end_of cell)) (end_of span + 1) middle (end_of span + 1) behind (omega arith) (omega arith) (apart_between (max span.start (end_of cell)) (end_of span)))
+    (apart_within_wider span.start (min (end_of span) cell.start + 1) span.start middle before (omega arith) (omega arith)
+    (apart_between span.start (min (end_of span) cell.start)))
+    (apart_within_wider (max span.start (end_of cell)) (end_of span + 1) middle (end_of span + 1) behind (omega arith) (omega arith)
+    (apart_between (max span.start (end_of cell)) (end_of span)))
 
 -- spans without a cell stand apart
 pub apart_without : (low high : ℕ) (cell : Span) (spans : List Span) → 0 < cell.len → StandApart low high spans → StandApart low high (without cell spans)
@@ -91,7 +123,8 @@ apart_without low high cell (s ∷ spans) h a =
     (apart_without (end_of s + 1) high cell spans h a.3)
 
 -- the first fit stands behind spans that are too short
-pub first_fit-at : (n : ℕ) (front : List Span) (span : Span) (back : List Span) → AllByRecursion (λ s. s.len < n) front → n ≤ span.len → first_fit n (front ++ span ∷ back) ≡ Some span
+pub first_fit-at : (n : ℕ) (front : List Span) (span : Span) (back : List Span) → AllByRecursion (λ s. s.len < n) front → n ≤ span.len
+    → first_fit n (front ++ span ∷ back) ≡ Some span
 first_fit-at n [] span back a h = rw (le-leb n span.len h)
 first_fit-at n (s ∷ front) span back a h = rw (lt-leb n s.len a.0) (first_fit-at n front span back a.1 h)
 
@@ -101,7 +134,9 @@ first_fit-none n [] a = refl
 first_fit-none n (s ∷ spans) a = rw (lt-leb n s.len a.0) (first_fit-none n spans a.1)
 
 -- each span is too short, or one is the first fit
-pub first_fit_cases : (n : ℕ) (spans : List Span) → AllByRecursion (λ s. s.len < n) spans ⊎ ((front : List Span) × (span : Span) × (back : List Span) × (spans ≡ front ++ span ∷ back) × AllByRecursion (λ s. s.len < n) front × (n ≤ span.len))
+pub first_fit_cases : (n : ℕ) (spans : List Span)
+    → AllByRecursion (λ s. s.len < n) spans
+    ⊎ ((front : List Span) × (span : Span) × (back : List Span) × (spans ≡ front ++ span ∷ back) × AllByRecursion (λ s. s.len < n) front × (n ≤ span.len))
 first_fit_cases n [] = inl tt
 first_fit_cases n (s ∷ spans) =
     elim (cases_lt s.len n) [
@@ -131,16 +166,19 @@ spans_from-zero [] = refl
 spans_from-zero (s ∷ spans) = rw (le-leb 0 s.start (omega arith)) (ap (λ z. s ∷ z) (spans_from-zero spans))
 
 -- the first fit from an address on stands behind spans that begin before it or are too short
-pub first_fit-from_at : (low n : ℕ) (front : List Span) (span : Span) (back : List Span) → AllByRecursion (λ s. (s.start < low) ⊎ (s.len < n)) front → low ≤ span.start → n ≤ span.len → first_fit n (spans_from low (front ++ span ∷ back)) ≡ Some span
+pub first_fit-from_at : (low n : ℕ) (front : List Span) (span : Span) (back : List Span) → AllByRecursion (λ s. (s.start < low) ⊎ (s.len < n)) front
+    → low ≤ span.start → n ≤ span.len → first_fit n (spans_from low (front ++ span ∷ back)) ≡ Some span
 first_fit-from_at low n [] span back a p q = rw (le-leb low span.start p, le-leb n span.len q)
 first_fit-from_at low n (s ∷ front) span back a p q =
     elim (cases_lt s.start low) [
       | inl h ↦ rw (lt-leb low s.start h) (first_fit-from_at low n front span back a.1 p q)
-      | inr h ↦ rw (le-leb low s.start h, lt-leb n s.len (elim a.0 as (λ _. s.len < n) [ inl b ↦ absurd (omega arith) | inr b ↦ b ])) (first_fit-from_at low n front span back a.1 p q)
+      | inr h ↦ rw (le-leb low s.start h, lt-leb n s.len (elim a.0 as (λ _. s.len < n) [ inl b ↦ absurd (omega arith) | inr b ↦ b ]))
+          (first_fit-from_at low n front span back a.1 p q)
     ]
 
 -- from an address on each span is too short where each of all begins before it or is too short
-pub too_short_from : (low n : ℕ) (spans : List Span) → AllByRecursion (λ s. (s.start < low) ⊎ (s.len < n)) spans → AllByRecursion (λ s. s.len < n) (spans_from low spans)
+pub too_short_from : (low n : ℕ) (spans : List Span) → AllByRecursion (λ s. (s.start < low) ⊎ (s.len < n)) spans
+    → AllByRecursion (λ s. s.len < n) (spans_from low spans)
 too_short_from low n [] a = tt
 too_short_from low n (s ∷ spans) a =
     elim (cases_lt s.start low) [
@@ -149,9 +187,11 @@ too_short_from low n (s ∷ spans) a =
     ]
 
 -- the first fit from an address on, and the spans without its first n words, by its place
-pub taken_at : (low high from n : ℕ) (spans : List Span) (place : ℕ) (d : Span) → StandApart low high spans → place < length spans → AllByRecursion (λ s. (s.start < from) ⊎ (s.len < n)) (take place spans) → HoldsAt (λ span. (from ≤ span.start) × (n ≤ span.len)) spans place
+pub taken_at : (low high from n : ℕ) (spans : List Span) (place : ℕ) (d : Span) → StandApart low high spans → place < length spans
+    → AllByRecursion (λ s. (s.start < from) ⊎ (s.len < n)) (take place spans) → HoldsAt (λ span. (from ≤ span.start) × (n ≤ span.len)) spans place
     → (first_fit n (spans_from from spans) ≡ Some (slice_index_or spans place d))
-    × (without (front_of n (slice_index_or spans place d)) spans ≡ take place spans ++ (words_between ((slice_index_or spans place d).start + n) (end_of (slice_index_or spans place d)) ++ drop (place + 1) spans))
+    × (without (front_of n (slice_index_or spans place d)) spans ≡ take place
+    spans ++ (words_between ((slice_index_or spans place d).start + n) (end_of (slice_index_or spans place d)) ++ drop (place + 1) spans))
 taken_at low high from n spans place d a within passed fits =
     let span = slice_index_or spans place d in
     let front = take place spans in

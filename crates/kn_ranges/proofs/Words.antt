@@ -1,12 +1,12 @@
--- Which words a list of spans has, and that no other list that stands apart has the same.
-use Rattle.std.proofs.Common.{ℕ, ◌+◌, ◌<◌, ◌≤◌, ◌≡◌, ◌⊎◌, ◌↔◌, List, [], ◌∷◌, ◌++◌, min, max, if◌then◌else◌, nat_lt, refl, inl, inr, arith}
+-- Which words a list of spans has, and what is apart from them.
+use Rattle.std.proofs.Common.{ℕ, ◌+◌, ◌<◌, ◌≤◌, ◌≡◌, ◌⊎◌, ◌↔◌, List, [], ◌∷◌, ◌++◌, min, max, if◌then◌else◌, nat_lt, inl, inr, arith}
 use Rattle.std.specs.List.{AllByRecursion}
 use Rattle.std.proofs.lemmas.Bool.{lt-ltb, le-ltb, cases_lt}
 use Rattle.kn_base.specs.declared.numbers.Span.{Span}
 use Rattle.kn_base.specs.Spans.{end_of, AreApart}
-use Rattle.kn_ranges.specs.SpanLists.{Covers, HasWord, StandApart, joined, put_in, span_without, without, words_between}
+use Rattle.kn_base.specs.SpanLists.{Covers, HasWord, StandApart, joined, put_in, span_without, without, words_between}
 use Rattle.kn_ranges.proofs.Apart.{apart_before, apart_behind, begins_behind, ends_before}
-use Rattle.kn_ranges.proofs.Putting.{apart_put_in, span_same}
+use Rattle.kn_ranges.proofs.Putting.{apart_put_in}
 use Rattle.kn_ranges.proofs.Taking.{apart_without}
 
 -- the words of two lists joined end to end
@@ -25,19 +25,22 @@ covers-append (s ∷ front) back word =
     )
 
 -- spans that end before a place do not have the word before it, nor a later one
-pub not_before : (spans : List Span) (place word : ℕ) → AllByRecursion (λ span. (0 < span.len) × (end_of span < place)) spans → place ≤ word + 1 → Covers spans word → ⊥
+pub not_before : (spans : List Span) (place word : ℕ) → AllByRecursion (λ span. (0 < span.len) × (end_of span < place)) spans → place ≤ word + 1
+    → Covers spans word → ⊥
 not_before [] place word a h c = c
 not_before (s ∷ spans) place word a h (inl has) = omega (arith, a.0.1, has.1)
 not_before (s ∷ spans) place word a h (inr rest) = not_before spans place word a.1 h rest
 
 -- spans that begin at a place or behind it have no word before it
-pub not_behind : (spans : List Span) (place word : ℕ) → AllByRecursion (λ span. (0 < span.len) × (place ≤ span.start)) spans → word < place → Covers spans word → ⊥
+pub not_behind : (spans : List Span) (place word : ℕ) → AllByRecursion (λ span. (0 < span.len) × (place ≤ span.start)) spans → word < place
+    → Covers spans word → ⊥
 not_behind [] place word a h c = c
 not_behind (s ∷ spans) place word a h (inl has) = omega (arith, a.0.1, has.0)
 not_behind (s ∷ spans) place word a h (inr rest) = not_behind spans place word a.1 h rest
 
 -- neither the word before a span of the list nor the one behind it is in the list
-pub not_beside : (low high : ℕ) (front : List Span) (span : Span) (back : List Span) (word : ℕ) → StandApart low high (front ++ span ∷ back) → (word + 1 ≡ span.start) ⊎ (word ≡ end_of span) → Covers (front ++ span ∷ back) word → ⊥
+pub not_beside : (low high : ℕ) (front : List Span) (span : Span) (back : List Span) (word : ℕ) → StandApart low high (front ++ span ∷ back)
+    → (word + 1 ≡ span.start) ⊎ (word ≡ end_of span) → Covers (front ++ span ∷ back) word → ⊥
 not_beside low high front span back word a h covers =
     let before = ends_before low span.start front (apart_before low high front span back a) in
     let behind = begins_behind (end_of span + 1) high back (apart_behind low high front span back a) in
@@ -55,7 +58,11 @@ not_beside low high front span back word a h covers =
 pub covers-words_between : (low high word : ℕ) → Covers (words_between low high) word ↔ ((low ≤ word) × (word < high))
 covers-words_between low high word =
     elim (cases_lt low high) [
-      | inl h ↦ rw (lt-ltb low high h) (λ c. elim c as (λ _. (low ≤ word) × (word < high)) [ inl has ↦ (has.0, omega (arith, has.1)) | inr never ↦ absurd never ], λ p. inl (p.0, omega (arith, p.1)))
+      | inl h ↦ rw (lt-ltb low high h) (
+        λ c. elim c as (λ _. (low ≤ word) × (word < high)) [ inl has ↦ (has.0, omega (arith, has.1)) | inr never ↦ absurd never ],
+        λ p. inl
+            (p.0, omega (arith, p.1)),
+      )
       | inr h ↦ rw (le-ltb low high h) (λ c. absurd c, λ p. absurd (omega (arith, p.0, p.1)))
     ]
 
@@ -63,10 +70,12 @@ covers-words_between low high word =
 pub has-joined : (a b : Span) (word : ℕ) → b.start ≤ end_of a → a.start ≤ end_of b → HasWord (joined a b) word ↔ (HasWord a word ⊎ HasWord b word)
 has-joined a b word p q = (
   λ h. elim (cases_lt word (end_of a)) as (λ _. HasWord a word ⊎ HasWord b word) [
-    | inl less ↦ elim (cases_lt word a.start) as (λ _. HasWord a word ⊎ HasWord b word) [ inl l ↦ inr (omega (arith, h.0, h.1), omega (arith, h.0, h.1)) | inr m ↦ inl (m, less) ]
+    | inl less ↦ elim (cases_lt word a.start) as (λ _. HasWord a word ⊎ HasWord b word)
+        [ inl l ↦ inr (omega (arith, h.0, h.1), omega (arith, h.0, h.1)) | inr m ↦ inl (m, less) ]
     | inr more ↦ inr (omega (arith, h.0, h.1), omega (arith, h.0, h.1))
   ],
-  λ h. elim h as (λ _. HasWord (joined a b) word) [ inl x ↦ (omega (arith, x.0, x.1), omega (arith, x.0, x.1)) | inr y ↦ (omega (arith, y.0, y.1), omega (arith, y.0, y.1)) ],
+  λ h. elim h as (λ _. HasWord (joined a b) word)
+      [ inl x ↦ (omega (arith, x.0, x.1), omega (arith, x.0, x.1)) | inr y ↦ (omega (arith, y.0, y.1), omega (arith, y.0, y.1)) ],
 )
 
 -- a span put in adds its words
@@ -75,10 +84,13 @@ covers-put_in new [] word = (λ h. h, λ h. h)
 covers-put_in new (s ∷ spans) word =
     elim (cases_lt (end_of new) s.start) [
       | inl h ↦ rw (lt-ltb (end_of new) s.start h) (λ c. c, λ c. c)
-      | inr h ↦ rw (le-ltb (end_of new) s.start h) (elim (cases_lt (end_of s) new.start) as (λ _. Covers (if nat_lt (end_of s) new.start then s ∷ put_in new spans else put_in (joined new s) spans) word ↔ (HasWord new word ⊎ Covers (s ∷ spans) word)) [
-        | inl k ↦ rw (lt-ltb (end_of s) new.start k) (passed (covers-put_in new spans word))
-        | inr k ↦ rw (le-ltb (end_of s) new.start k) (merged (has-joined new s word h k) (covers-put_in (joined new s) spans word))
-      ])
+      | inr h ↦ rw (le-ltb (end_of new) s.start h)
+          (elim (cases_lt (end_of s) new.start) as
+          (λ _. Covers (if nat_lt (end_of s) new.start then s ∷ put_in new spans else put_in (joined new s) spans) word ↔
+          (HasWord new word ⊎ Covers (s ∷ spans) word)) [
+            | inl k ↦ rw (lt-ltb (end_of s) new.start k) (passed (covers-put_in new spans word))
+            | inr k ↦ rw (le-ltb (end_of s) new.start k) (merged (has-joined new s word h k) (covers-put_in (joined new s) spans word))
+          ])
     ]
   where
     passed : {A B C D : Type 0} → (C ↔ (A ⊎ D)) → (B ⊎ C) ↔ (A ⊎ (B ⊎ D))
@@ -129,47 +141,9 @@ covers-without cell (s ∷ spans) word =
       ],
     )
 
--- the first word of a list is the least
-least_word : (low high : ℕ) (span : Span) (spans : List Span) (word : ℕ) → StandApart low high (span ∷ spans) → Covers (span ∷ spans) word → span.start ≤ word
-least_word low high span spans word a (inl has) = has.0
-least_word low high span spans word a (inr rest) =
-    elim (cases_lt word span.start) [
-      | inl less ↦ absurd (not_behind spans (end_of span + 1) word (begins_behind (end_of span + 1) high spans a.3) (omega arith) rest)
-      | inr more ↦ more
-    ]
-
--- a list ends no earlier in its first span than another list with those words
-ends_no_earlier : (low high : ℕ) (x y : Span) (xs ys : List Span) → StandApart low high (x ∷ xs) → y.start ≡ x.start → ((word : ℕ) → Covers (y ∷ ys) word → Covers (x ∷ xs) word) → end_of y ≤ end_of x
-ends_no_earlier low high x y xs ys a e within =
-    elim (cases_lt (end_of x) (end_of y)) [
-      | inl less ↦ absurd (not_beside low high [] x xs (end_of x) a (inr refl) (within (end_of x) (inl (omega arith, less))))
-      | inr more ↦ more
-    ]
-
--- lists that stand apart and have the same words are one
-pub same_from_words : (low high : ℕ) (xs ys : List Span) → StandApart low high xs → StandApart low high ys → ((word : ℕ) → Covers xs word ↔ Covers ys word) → xs ≡ ys
-same_from_words low high [] [] a b same = refl
-same_from_words low high [] (y ∷ ys) a b same = absurd ((same y.start).1 (inl (omega arith, omega (arith, b.1))))
-same_from_words low high (x ∷ xs) [] a b same = absurd ((same x.start).0 (inl (omega arith, omega (arith, a.1))))
-same_from_words low high (x ∷ xs) (y ∷ ys) a b same =
-    let x_first : x.start ≤ y.start = least_word low high x xs y.start a ((same y.start).1 (inl (omega arith, omega (arith, b.1)))) in
-    let y_first : y.start ≤ x.start = least_word low high y ys x.start b ((same x.start).0 (inl (omega arith, omega (arith, a.1)))) in
-    let start : x.start ≡ y.start = omega arith in
-    let y_ends = ends_no_earlier low high x y xs ys a (omega arith) (λ word. (same word).1) in
-    let x_ends = ends_no_earlier low high y x ys xs b start (λ word. (same word).0) in
-    let first : x ≡ y = span_same x y start (omega arith) in
-    let rest = same_from_words (end_of x + 1) high xs ys a.3 (rw first b.3) (λ word. (later word xs ys x y a b (same word).0 y_ends, later word ys xs y x b a (same word).1 x_ends)) in
-    λ i. first i ∷ rest i
-  where
-    later : (word : ℕ) (xs ys : List Span) (x y : Span) → StandApart low high (x ∷ xs) → StandApart low high (y ∷ ys) → (Covers (x ∷ xs) word → Covers (y ∷ ys) word) → end_of y ≤ end_of x → Covers xs word → Covers ys word
-    later word xs ys x y a b f h covers =
-        elim (f (inr covers)) as (λ _. Covers ys word) [
-          | inl has ↦ absurd (not_behind xs (end_of x + 1) word (begins_behind (end_of x + 1) high xs a.3) (omega (arith, has.1)) covers)
-          | inr rest ↦ rest
-        ]
-
 -- spans that have no word of a cell are apart from it
-pub apart_from_words : (cell : Span) (spans : List Span) → 0 < cell.len → AllByRecursion (λ span. 0 < span.len) spans → ((word : ℕ) → HasWord cell word → Covers spans word → ⊥) → AllByRecursion (AreApart cell) spans
+pub apart_from_words : (cell : Span) (spans : List Span) → 0 < cell.len → AllByRecursion (λ span. 0 < span.len) spans
+    → ((word : ℕ) → HasWord cell word → Covers spans word → ⊥) → AllByRecursion (AreApart cell) spans
 apart_from_words cell [] h some free = tt
 apart_from_words cell (s ∷ spans) h some free =
     let first : AreApart cell s =
@@ -185,7 +159,8 @@ apart_from_words cell (s ∷ spans) h some free =
 -- spans apart from a cell have no word of it
 pub words_from_apart : (cell : Span) (spans : List Span) → AllByRecursion (AreApart cell) spans → (word : ℕ) → HasWord cell word → Covers spans word → ⊥
 words_from_apart cell [] apart word has covers = covers
-words_from_apart cell (s ∷ spans) apart word has (inl here) = elim apart.0 as (λ _. ⊥) [ inl p ↦ omega (arith, has.1, here.0) | inr p ↦ omega (arith, has.0, here.1) ]
+words_from_apart cell (s ∷ spans) apart word has (inl here) =
+    elim apart.0 as (λ _. ⊥) [ inl p ↦ omega (arith, has.1, here.0) | inr p ↦ omega (arith, has.0, here.1) ]
 words_from_apart cell (s ∷ spans) apart word has (inr later) = words_from_apart cell spans apart.1 word has later
 
 -- each span of a list that stands apart has a word
@@ -194,16 +169,22 @@ each_has_word low high [] a = tt
 each_has_word low high (s ∷ spans) a = (a.1, each_has_word (end_of s + 1) high spans a.3)
 
 -- a cell that is taken out is apart from what is left
-pub apart_after_without : (low high : ℕ) (cell : Span) (spans : List Span) → 0 < cell.len → StandApart low high spans → AllByRecursion (AreApart cell) (without cell spans)
+pub apart_after_without : (low high : ℕ) (cell : Span) (spans : List Span) → 0 < cell.len → StandApart low high spans
+    → AllByRecursion (AreApart cell) (without cell spans)
 apart_after_without low high cell spans h a =
-    apart_from_words cell (without cell spans) h (each_has_word low high (without cell spans) (apart_without low high cell spans h a)) (λ word has covers. ((covers-without cell spans word).0 covers).1 has)
+    apart_from_words cell (without cell spans) h (each_has_word low high (without cell spans) (apart_without low high cell spans h a))
+    (λ word has covers. ((covers-without cell spans word).0 covers).1 has)
 
 -- a cell that is apart from each span stays so where another is taken out
-pub apart_kept_without : (low high : ℕ) (other cell : Span) (spans : List Span) → 0 < other.len → 0 < cell.len → StandApart low high spans → AllByRecursion (AreApart cell) spans → AllByRecursion (AreApart cell) (without other spans)
+pub apart_kept_without : (low high : ℕ) (other cell : Span) (spans : List Span) → 0 < other.len → 0 < cell.len → StandApart low high spans
+    → AllByRecursion (AreApart cell) spans → AllByRecursion (AreApart cell) (without other spans)
 apart_kept_without low high other cell spans h k a apart =
-    apart_from_words cell (without other spans) k (each_has_word low high (without other spans) (apart_without low high other spans h a)) (λ word has covers. words_from_apart cell spans apart word has ((covers-without other spans word).0 covers).0)
+    apart_from_words cell (without other spans) k (each_has_word low high (without other spans) (apart_without low high other spans h a))
+    (λ word has covers. words_from_apart cell spans apart word has ((covers-without other spans word).0 covers).0)
 
 -- a cell that is apart from each span and from a new one stays so where that one is put in
-pub apart_kept_put_in : (low high : ℕ) (new cell : Span) (spans : List Span) → low ≤ new.start → 0 < new.len → end_of new < high → 0 < cell.len → StandApart low high spans → AreApart cell new → AllByRecursion (AreApart cell) spans → AllByRecursion (AreApart cell) (put_in new spans)
+pub apart_kept_put_in : (low high : ℕ) (new cell : Span) (spans : List Span) → low ≤ new.start → 0 < new.len → end_of new < high → 0 < cell.len
+    → StandApart low high spans → AreApart cell new → AllByRecursion (AreApart cell) spans → AllByRecursion (AreApart cell) (put_in new spans)
 apart_kept_put_in low high new cell spans p q r k a other apart =
-    apart_from_words cell (put_in new spans) k (each_has_word low high (put_in new spans) (apart_put_in low high new spans p q r a)) (λ word has covers. words_from_apart cell (new ∷ spans) (other, apart) word has ((covers-put_in new spans word).0 covers))
+    apart_from_words cell (put_in new spans) k (each_has_word low high (put_in new spans) (apart_put_in low high new spans p q r a))
+    (λ word has covers. words_from_apart cell (new ∷ spans) (other, apart) word has ((covers-put_in new spans word).0 covers))

@@ -1,7 +1,7 @@
 -- What a list of free spans is seen as.
 use Rattle.std.specs.Prelude.{ℕ, ◌+◌, ◌/◌, ◌<◌, ◌⊎◌, List, length, Any}
 use Rattle.kn_base.specs.declared.numbers.Span.{Span}
-use Rattle.kn_ranges.specs.SpanLists.{Touches}
+use Rattle.kn_base.specs.SpanLists.{Touches}
 
 -- the free spans in order, and how many of them there is room for
 pub record FreeSpans : Type 0 where

@@ -1,3 +1,3 @@
-pub mod SpanLists
 pub mod FreeSpans
 pub mod Cells
+pub mod Laws

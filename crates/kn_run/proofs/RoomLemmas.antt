@@ -1,5 +1,6 @@
 -- The room of a birth lies in a small frame, at or behind the free address.
-use Rattle.std.proofs.Common.{◌≡◌, ℕ, ◌+◌, ◌-◌, ◌*◌, ◌<◌, ◌≤◌, Bool, true, false, cond, ◌&&◌, nat_lt, Some, None, refl, sym, ◌∙◌, ap, subst, arith, ◌⊎◌, inl, inr, leb}
+use Rattle.std.proofs.Common.{◌≡◌, ℕ, ◌+◌, ◌-◌, ◌*◌, ◌<◌, ◌≤◌, Bool, true, false, cond, ◌&&◌, nat_lt, Some, None, refl, sym, ◌∙◌, ap, subst, arith, ◌⊎◌}
+use Rattle.std.proofs.Common.{inl, inr, leb}
 use Rattle.std.proofs.lemmas.Bool.{lt-ltb, ltb-true, leb-true, leb-false, cases_lt}
 use Rattle.std.proofs.Math.Nat.{div-add-mod, mul-le-mul_right}
 use Rattle.kn_base.specs.declared.numbers.Span.{Span}
@@ -151,7 +152,8 @@ least_room z free n room wide from e = either z free n room from (omega arith) (
 
 nowhere : (z : Sizes) (free n other : ℕ) → 1 ≤ free → 1 ≤ n → offset_at z free < z.small_words →
     nat_lt (frame_at z free) z.small && leb (offset_at z free + n) z.small_words ≡ false →
-    nat_lt (frame_at z free + 1) z.small && leb n z.small_words ≡ false → (l : Lies z free n other) → (frame_at z free < z.small) ⊎ (z.small ≤ frame_at z free) → ⊥
+    nat_lt (frame_at z free + 1) z.small && leb n z.small_words ≡ false → (l : Lies z free n other) → (frame_at z free < z.small)
+    ⊎ (z.small ≤ frame_at z free) → ⊥
 nowhere z free n other from some within here next l (inl small) =
     let over = not_both (frame_at z free) z.small (offset_at z free + n) z.small_words here small in
     let behind = later z free n other from over l in
@@ -167,6 +169,7 @@ nowhere z free n other from some within here next l (inr past) =
 -- where none is computed there is none
 pub no_room : (z : Sizes) (free n : ℕ) → 32 ≤ z.small_words → 1 ≤ free → 1 ≤ n → room_at z free n ≡ None → (other : ℕ) → Fits z free n other → ⊥
 no_room z free n wide from some e other there =
-    let tests = none_chosen (nat_lt (frame_at z free) z.small) (leb (offset_at z free + n) z.small_words) (nat_lt (frame_at z free + 1) z.small) (leb n z.small_words) free (1 + (frame_at z free + 1) * z.small_words) e in
+    let tests = none_chosen (nat_lt (frame_at z free) z.small) (leb (offset_at z free + n) z.small_words) (nat_lt (frame_at z free + 1) z.small)
+    (leb n z.small_words) free (1 + (frame_at z free + 1) * z.small_words) e in
     let l = lies z free n other there in
     nowhere z free n other from some (omega arith) tests.0 tests.1 l (cases_lt (frame_at z free) z.small)

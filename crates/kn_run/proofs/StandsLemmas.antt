@@ -1,366 +1,321 @@
--- What an entry put last does to a history, and that the running cells go on standing for a graph.
-use Rattle.std.proofs.Common.{◌≡◌, ◌≢◌, ℕ, zero, suc, ◌+◌, ◌<◌, ◌≤◌, Option, Some, None, List, [], ◌∷◌, ◌++◌, length, get_or, refl, sym, ◌∙◌, ap, subst, arith, length-append, set, slice_index_or, slice_get, length-set, get_or-set_same, get_or-set_other, eqb, true, false, inl, inr, ◌⊎◌}
-use Rattle.std.proofs.lemmas.List.{append-nil}
-use Rattle.std.proofs.lemmas.Result.{on_ok_weaker}
-use Rattle.std.proofs.lemmas.Option.{slice_get_read}
-use Rattle.std.specs.Prelude.{Result, OnOk}
-use Rattle.std.proofs.lemmas.Bool.Decides.{eqb_tells}
-use Rattle.std.specs.List.{AllByRecursion}
+-- What a run keeps goes on standing for its history, call after call.
+use Rattle.std.proofs.Common.{◌≡◌, ◌≢◌, ℕ, ◌+◌, ◌<◌, ◌≤◌, inl, inr, true, false, ◌&&◌, cond, eqb, Option, Some, None, List, [], ◌∷◌, ◌++◌, length, set}
+use Rattle.std.proofs.Common.{slice_index_or, refl, sym, ◌∙◌, ap, subst, arith, length-set, append-nil}
+use Rattle.std.proofs.lemmas.List.{get_or-set_same, get_or-set_other}
 use Rattle.std.proofs.lemmas.Grind.{flat_map-append}
-use Rattle.std.proofs.lemmas.List.Elements.{filter-append}
+use Rattle.std.proofs.lemmas.Bool.Decides.{eqb_tells}
 use Rattle.kn_base.specs.declared.numbers.Span.{Span}
+use Rattle.kn_base.specs.Functions.{Tells}
 use Rattle.kn_base.specs.Spans.{end_of}
-use Rattle.kn_base.specs.Sizes.{IsGood, small_area}
-use Rattle.kn_graph.specs.declared.layouts.Layout.{Layout}
-use Rattle.kn_graph.specs.Layouts.{size_of}
+use Rattle.kn_base.specs.Sizes.{small_area}
+use Rattle.kn_base.proofs.Updates.{upd_here}
 use Rattle.kn_graph.specs.declared.calls.Call.{Call}
-use Rattle.kn_graph.specs.declared.calls.Call.TheVariants.{New, Copy, Clear, Same}
+use Rattle.kn_graph.specs.declared.calls.Call.TheVariants as call
 use Rattle.kn_graph.specs.declared.calls.Reply.{Reply}
 use Rattle.kn_graph.specs.declared.calls.Reply.TheVariants as replies
 use Rattle.kn_graph.specs.declared.entries.Entry.{Entry}
-use Rattle.kn_graph.specs.Graph.{Ground, Graph, Object, empty_graph, words_of, changed_at, with_local, with_birth, cell_at, words_for}
-use Rattle.kn_graph.specs.Ranges.{IsFieldsLayout}
-use Rattle.kn_graph.specs.Answers.{is_same, yes_or_no}
-use Rattle.kn_graph.specs.Histories.{Leads, Follows}
-use Rattle.kn_graph.specs.Logs.{births_of, cell_in, log_of, calls_of}
+use Rattle.kn_graph.specs.Ground.{Ground, IsGoodGround}
+use Rattle.kn_graph.specs.Graph.{Graph, Object, shapes, words_of, cell_at, length_for, empty_graph, newborn, with_birth, with_entered, IsLegalBirth}
+use Rattle.kn_graph.specs.Arguments.{IsInRange}
+use Rattle.kn_graph.specs.Answers.{AnswersNew}
+use Rattle.kn_graph.specs.Histories.{Follows}
+use Rattle.kn_graph.specs.Growth.{Succeeds}
+use Rattle.kn_graph.specs.Counts.{makes_object, is_ok}
+use Rattle.kn_graph.specs.Logs.{LogsFit, log_of}
+use Rattle.kn_graph.specs.Replay.{Replay, graph_of, is_full, IsSeen, IsAnswered, Answers, told_address, call_entry}
+use Rattle.kn_graph.proofs.Splits.{appended, log_of-append}
+use Rattle.kn_graph.proofs.LegalGraphs.{legal_sound}
+use Rattle.kn_graph.proofs.Successors.{next_succeeds}
+use Rattle.kn_graph.proofs.Answered.{answer_born}
+use Rattle.kn_run.specs.Births.{births_of, cell_in, cell_of_call, cell_where_ok}
 use Rattle.kn_run.specs.Kept.{Kept}
+use Rattle.kn_run.specs.Rooms.{room_at, room_of, cell_with, words_for, ArePlaced, EventIsPlaced, CallIsPlaced, IsPlaced, behind, free_after}
+use Rattle.kn_run.specs.Stands.{StandsFor, cells_of, start_of, seen_of, with_entry, IsAnswerable}
 use Rattle.kn_run.proofs.RoomLemmas.{is_room, least_room, no_room}
-use Rattle.kn_run.specs.Rooms.{room_at, ArePlaced, EventIsPlaced, free_after, behind}
-use Rattle.kn_run.specs.Stands.{StandsFor, Stands, call_entry}
 
-pub Leads-append : (z : Ground) (g : Graph) (entries : List Entry) (entry : Entry) (mid g' : Graph) →
-    Leads z g entries mid → Follows z entry mid g' → Leads z g (entries ++ entry ∷ []) g'
-Leads-append z g [] entry mid g' led next = (g', subst (λ (x : Graph). Follows z entry x g') (sym led) next, refl)
-Leads-append z g (e ∷ entries) entry mid g' led next = (led.0, led.1, Leads-append z led.0 entries entry mid g' led.2 next)
+-- one entry more in a history: its births, and where they are placed
 
-pub free_after-append : (z : Ground) (free : ℕ) (entries : List Entry) (entry : Entry) →
+births_of-append : (z : Ground) (entries : List Entry) (entry : Entry) →
+    births_of z (entries ++ entry ∷ []) ≡ births_of z entries ++ cell_in z entry.what
+births_of-append z entries entry = rw flat_map-append (ap (λ (x : List Span). births_of z entries ++ x) (append-nil (cell_in z entry.what)))
+
+free_after-append : (z : Ground) (free : ℕ) (entries : List Entry) (entry : Entry) →
     free_after z free (entries ++ entry ∷ []) ≡ behind (free_after z free entries) (cell_in z entry.what)
 free_after-append z free [] entry = refl
 free_after-append z free (e ∷ entries) entry = free_after-append z (behind free (cell_in z e.what)) entries entry
 
-pub ArePlaced-append : (z : Ground) (free : ℕ) (entries : List Entry) (entry : Entry) →
+ArePlaced-append : (z : Ground) (free : ℕ) (entries : List Entry) (entry : Entry) →
     ArePlaced z free entries → EventIsPlaced z (free_after z free entries) entry.what → ArePlaced z free (entries ++ entry ∷ [])
 ArePlaced-append z free [] entry placed next = (next, tt)
 ArePlaced-append z free (e ∷ entries) entry placed next = (placed.0, ArePlaced-append z (behind free (cell_in z e.what)) entries entry placed.1 next)
 
-pub births_of-append : (z : Ground) (entries : List Entry) (entry : Entry) →
-    births_of z (entries ++ entry ∷ []) ≡ births_of z entries ++ cell_in z entry.what
-births_of-append z entries entry = rw flat_map-append (ap (λ (x : List Span). births_of z entries ++ x) (append-nil (cell_in z entry.what)))
+-- the log of the entry's caller gets it, and the others stay
+log_at : (logs : List (List Entry)) (history : List Entry) (entry : Entry) (by : ℕ) → by < length logs →
+    slice_index_or logs by [] ≡ log_of by history → Tells entry.by.0 by →
+    slice_index_or (set logs entry.by.0 (slice_index_or logs entry.by.0 [] ++ entry ∷ [])) by [] ≡ cond (eqb entry.by.0 by)
+    (log_of by history ++ entry ∷ []) (log_of by history)
+log_at logs history entry by near same (inl t) =
+    let here : entry.by.0 < length logs = omega (arith, t.1) in
+    rw t.0 (subst (λ k. slice_index_or (set logs entry.by.0 (slice_index_or logs entry.by.0 [] ++ entry ∷ [])) k [] ≡ log_of by history ++ entry ∷ []) t.1
+    (get_or-set_same logs entry.by.0 (slice_index_or logs entry.by.0 [] ++ entry ∷ []) [] here
+    ∙ ap (λ (x : List Entry). x ++ entry ∷ []) (ap (λ k. slice_index_or logs k []) t.1 ∙ same)))
+log_at logs history entry by near same (inr t) =
+    rw t.0 (get_or-set_other logs entry.by.0 by (slice_index_or logs entry.by.0 [] ++ entry ∷ []) [] (λ e. t.1 (sym e)) ∙ same)
 
--- a history with one more entry, and what the entry makes of the rest
-pub record Goes (z : Ground) (entry : Entry) (kept kept' : Kept) (g g' : Graph) : Type 0 where
-  pub follows : Follows z entry g g'
-  pub placed : EventIsPlaced z kept.free entry.what
-  pub history : kept'.history ≡ kept.history ++ entry ∷ []
-  pub born : kept'.born ≡ kept.born ++ cell_in z entry.what
-  pub free : kept'.free ≡ behind kept.free (cell_in z entry.what)
-  pub count : g'.born ≡ length kept'.born
-  pub width : length kept'.locals ≡ 16
-  pub locals : (r : ℕ) → r < 16 → slice_index_or kept'.locals r None ≡ g'.local 0 r
-  pub below : (n : ℕ) → n < g'.born → end_of (words_of z (g'.object n)) ≤ kept'.free
-  pub few : length kept'.born < kept'.free
-  pub free_to : kept'.free ≤ 1 + small_area z.sizes
-
--- so the cells stand for the next graph
-pub goes_on : (z : Ground) (entry : Entry) (kept kept' : Kept) (g g' : Graph) →
-    StandsFor z kept g → Goes z entry kept kept' g g' → StandsFor z kept' g'
-goes_on z entry kept kept' g g' stands goes = record {
-  replay = subst (λ (h : List Entry). Leads z empty_graph h g') (sym goes.history)
-      (Leads-append z empty_graph kept.history entry g g' stands.replay goes.follows);
-  births = goes.born ∙ ap (λ (x : List Span). x ++ cell_in z entry.what) stands.births
-      ∙ sym (births_of-append z kept.history entry) ∙ ap (births_of z) (sym goes.history);
-  count = goes.count;
-  width = goes.width;
-  locals = goes.locals;
-  below = goes.below;
-  placed = subst (λ (h : List Entry). ArePlaced z 1 h) (sym goes.history)
-      (ArePlaced-append z 1 kept.history entry stands.placed
-      (subst (λ (x : ℕ). EventIsPlaced z x entry.what) stands.free_is goes.placed));
-  free_is = goes.free ∙ ap (λ (x : ℕ). behind x (cell_in z entry.what)) stands.free_is
-      ∙ sym (free_after-append z 1 kept.history entry) ∙ ap (free_after z 1) (sym goes.history);
-  few = goes.few;
-  free_to = goes.free_to;
+LogsFit-append : (callers : ℕ) (logs : List (List Entry)) (history : List Entry) (entry : Entry) → LogsFit callers logs history →
+    LogsFit callers (set logs entry.by.0 (slice_index_or logs entry.by.0 [] ++ entry ∷ [])) (history ++ entry ∷ [])
+LogsFit-append callers logs history entry fit = record {
+  count = length-set logs entry.by.0 (slice_index_or logs entry.by.0 [] ++ entry ∷ []) ∙ fit.count;
+  each = λ by near. log_at logs history entry by (omega (arith, fit.count)) (fit.each by near) (eqb_tells entry.by.0 by)
+      ∙ sym (log_of-append by history entry);
 }
 
--- an entry that tells no birth
-pub record IsQuiet (z : Ground) (entry : Entry) (free : ℕ) : Type 0 where
-  pub none : cell_in z entry.what ≡ []
-  pub placed : EventIsPlaced z free entry.what
+-- which reply a birth has
+full_is : (reply : Reply) → is_full reply ≡ true → reply ≡ replies.Full
+full_is replies.Full e = refl
+full_is reply e = cc
 
--- a step that writes one local, or none, and makes no object
-pub writes : (z : Ground) (entry : Entry) (kept : Kept) (locals' : List (Option ℕ)) (g g' : Graph) →
-    StandsFor z kept g → Follows z entry g g' → IsQuiet z entry kept.free →
-    g'.born ≡ g.born → ◌≡◌ {A = ℕ → Object} g'.object g.object →
-    length locals' ≡ 16 → ((r : ℕ) → r < 16 → slice_index_or locals' r None ≡ g'.local 0 r) →
-    StandsFor z (record { history = kept.history ++ entry ∷ []; born = kept.born; locals = locals'; free = kept.free }) g'
-writes z entry kept locals' g g' stands follows quiet same_count same_objects width locals =
-    goes_on z entry kept (record { history = kept.history ++ entry ∷ []; born = kept.born; locals = locals'; free = kept.free }) g g' stands (record {
-      follows = follows;
-      placed = quiet.placed;
-      history = refl;
-      born = sym (append-nil kept.born) ∙ ap (λ (x : List Span). kept.born ++ x) (sym quiet.none);
-      free = ap (behind kept.free) (sym quiet.none);
-      count = same_count ∙ stands.count;
-      width = width;
-      locals = locals;
-      below = λ n small. subst (λ (f : ℕ → Object). end_of (words_of z (f n)) ≤ kept.free) (sym same_objects)
-          (stands.below n (subst (λ (x : ℕ). n < x) same_count small));
-      few = stands.few;
-      free_to = stands.free_to;
-    })
+born_or_full : (z : Ground) (thread r layout fields : ℕ) (g : Graph) (reply : Reply) (address : ℕ) (g' : Graph) →
+    AnswersNew z thread r layout fields g reply address g' → is_full reply ≡ false → reply ≡ replies.Ok
+born_or_full z thread r layout fields g reply address g' (inl born) e = born.reply_is
+born_or_full z thread r layout fields g reply address g' (inr full) e = let h : is_full reply ≡ true = ap is_full full.reply_is in cc
 
-at_place : (locals : List (Option ℕ)) (f : ℕ → Option ℕ) (r : ℕ) (value : Option ℕ) →
-    length locals ≡ 16 → r < 16 → (q : ℕ) → slice_index_or locals q None ≡ f q → ((eqb q r ≡ true) × (q ≡ r)) ⊎ ((eqb q r ≡ false) × (q ≢ r)) →
-    slice_index_or (set locals r value) q None ≡ changed_at f r value q
-at_place locals f r value width small q same (inl e) =
-    let within : r < length locals = omega arith in
-    rw e.0 (subst (λ (k : ℕ). slice_index_or (set locals r value) k None ≡ value) (sym e.1) (get_or-set_same locals r value None within))
-at_place locals f r value width small q same (inr e) = rw e.0 (get_or-set_other locals r q value None e.1 ∙ same)
+-- what an answered call that looked for a room tells
+pub record Enters (z : Ground) (free : ℕ) (made : Call) (reply : Reply) (room : Option Span) : Type 0 where
+  pub told : told_address made reply (start_of room) ≡ start_of room
+  pub placed : CallIsPlaced z free made reply (start_of room)
+  pub cells : cell_of_call z made reply (start_of room) ≡ cells_of room
 
--- after a write of a local both sides have the value there, and the old values elsewhere
-pub local_written : (locals : List (Option ℕ)) (f : ℕ → Option ℕ) (r : ℕ) (value : Option ℕ) →
-    length locals ≡ 16 → r < 16 → ((q : ℕ) → q < 16 → slice_index_or locals q None ≡ f q) →
-    (q : ℕ) → q < 16 → slice_index_or (set locals r value) q None ≡ changed_at f r value q
-local_written locals f r value width small same q in_range = at_place locals f r value width small q (same q in_range) (eqb_tells q r)
+-- each object of a graph ends at or before an address, which is above their number and within the small frames or at their end
+pub record Grows (z : Ground) (after : Graph) (free : ℕ) : Type 0 where
+  pub below : (n : ℕ) → n < after.born → end_of (words_of (shapes after n)) ≤ free
+  pub few : after.born < free
+  pub free_to : free ≤ 1 + small_area z.sizes
 
--- a local of thread 0 is written
-wrote : (z : Ground) (call : Call) (r : ℕ) (value : Option ℕ) (kept : Kept) (g : Graph) →
-    StandsFor z kept g → r < 16 → Follows z (call_entry call replies.Ok 0) g (with_local g 0 r value) → IsQuiet z (call_entry call replies.Ok 0) kept.free →
-    Stands z (record { history = kept.history ++ call_entry call replies.Ok 0 ∷ []; born = kept.born; locals = set kept.locals r value; free = kept.free })
-wrote z call r value kept g stands small follows quiet = (
-  with_local g 0 r value,
-  writes z (call_entry call replies.Ok 0) kept (set kept.locals r value) g (with_local g 0 r value) stands follows quiet refl refl
-      (length-set kept.locals r value ∙ stands.width)
-      (local_written kept.locals (g.local 0) r value stands.width small stands.locals),
-)
+-- what a birth looks for, and what came of it
+module _ (z : Ground) (free n : ℕ) (wide : 32 ≤ z.sizes.small_words) (from : 1 ≤ free) (some : 1 ≤ n) where
+  placed_room : (reply : Reply) (room : Option ℕ) → room_at z.sizes free n ≡ room → is_full reply ≡ is_full (seen_of (cell_with n room)) →
+      (is_full reply ≡ false → reply ≡ replies.Ok) → IsPlaced z.sizes free n reply (start_of (cell_with n room))
+  placed_room reply None e seen ok = inr (full_is reply seen, no_room z.sizes free n wide from some e)
+  placed_room reply (Some room) e seen ok =
+      let least = least_room z.sizes free n room wide from e in
+      inl (ok seen, least.0, least.1)
 
-pub copied : (z : Ground) (r s : ℕ) (kept : Kept) → 0 < z.sizes.threads → r < 16 → s < 16 → Stands z kept →
-    Stands z (record {
-      history = kept.history ++ call_entry (Copy r s) replies.Ok 0 ∷ [];
-      born = kept.born;
-      locals = set kept.locals r (slice_index_or kept.locals s None);
-      free = kept.free;
-    })
-copied z r s kept threads small small' (g, stands) =
-    rw (stands.locals s small') (wrote z (Copy r s) r (g.local 0 s) kept g stands small
-    (record { by_thread = threads; epoch_is = refl; in_range = (small, small'); answer = record { reply_is = refl; nowhere = refl; after = refl } })
-    (record { none = refl; placed = tt }))
+  told_room : (reply : Reply) (room : Option ℕ) → is_full reply ≡ is_full (seen_of (cell_with n room)) →
+      cond (is_full reply) 0 (start_of (cell_with n room)) ≡ start_of (cell_with n room)
+  told_room reply None seen = rw seen refl
+  told_room reply (Some room) seen = rw seen refl
 
-pub cleared : (z : Ground) (r : ℕ) (kept : Kept) → 0 < z.sizes.threads → r < 16 → Stands z kept →
-    Stands z (record {
-      history = kept.history ++ call_entry (Clear r) replies.Ok 0 ∷ [];
-      born = kept.born;
-      locals = set kept.locals r None;
-      free = kept.free;
-    })
-cleared z r kept threads small (g, stands) = wrote z (Clear r) r None kept g stands small
-    (record { by_thread = threads; epoch_is = refl; in_range = small; answer = record { reply_is = refl; nowhere = refl; after = refl } })
-    (record { none = refl; placed = tt })
+  cell_room : (reply : Reply) (room : Option ℕ) (fields : ℕ) → (cell_at 0 fields).len ≡ n → is_full reply ≡ is_full (seen_of (cell_with n room)) →
+      (is_full reply ≡ false → reply ≡ replies.Ok) → cell_where_ok reply (cell_at (start_of (cell_with n room)) fields) ≡ cells_of (cell_with n room)
+  cell_room reply None fields e seen ok = rw (full_is reply seen) refl
+  cell_room reply (Some room) fields e seen ok = rw (ok seen) (ap (λ (m : ℕ). record { start = room; len = m } ∷ []) e)
 
-pub compared : (z : Ground) (r s : ℕ) (reply : Reply) (kept : Kept) → 0 < z.sizes.threads → r < 16 → s < 16 →
-    reply ≡ yes_or_no (is_same (slice_index_or kept.locals r None) (slice_index_or kept.locals s None)) → Stands z kept →
-    Stands z (record kept { history = kept.history ++ call_entry (Same r s) reply 0 ∷ [] })
-compared z r s reply kept threads small small' e (g, stands) = (
-  g,
-  writes z (call_entry (Same r s) reply 0) kept kept.locals g g stands
-      (record {
-        by_thread = threads;
-        epoch_is = refl;
-        in_range = (small, small');
-        answer = record {
-          reply_is = subst (λ (x : Option ℕ). reply ≡ yes_or_no (is_same x (g.local 0 s))) (stands.locals r small)
-              (subst (λ (x : Option ℕ). reply ≡ yes_or_no (is_same (slice_index_or kept.locals r None) x)) (stands.locals s small') e);
-          nowhere = refl;
-          unchanged = refl;
-        };
-      })
-      (record { none = refl; placed = tt })
-      refl refl stands.width stands.locals,
-)
+is_answered : (z : Ground) (by : ℕ) (made : Call) (address : ℕ) (seen : Reply) (g : Graph) (reply : Reply) (g' : Graph) → IsAnswerable made →
+    Answers z by made address seen g reply g' → IsAnswered z by made address seen g reply g'
+is_answered z by call.Collect address seen g reply g' may a = absurd may
+is_answered z by made address seen g reply g' may a = a
 
-pub refused : (z : Ground) (r layout : ℕ) (kept : Kept) → 0 < z.sizes.threads → 32 ≤ z.sizes.small_words → 2 ≤ (cell_at z 0 layout 0).len → r < 16 → IsFieldsLayout (slice_get z.layouts layout) →
-    room_at z.sizes kept.free (cell_at z 0 layout 0).len ≡ None → Stands z kept →
-    Stands z (record kept { history = kept.history ++ call_entry (New r layout) replies.Full 0 ∷ [] })
-refused z r layout kept threads wide long small fields is_full (g, stands) = (
-  g,
-  writes z (call_entry (New r layout) replies.Full 0) kept kept.locals g g stands
-      (record {
-        by_thread = threads;
-        epoch_is = refl;
-        in_range = (small, fields);
-        answer = inr (record { reply_is = refl; nowhere = refl; unchanged = refl });
-      })
-      (record {
-        none = refl;
-        placed = inr (refl, no_room z.sizes kept.free (cell_at z 0 layout 0).len wide (omega (arith, stands.few)) (omega arith) is_full);
-      })
-      refl refl stands.width stands.locals,
-)
+module _ (z : Ground) (good : IsGoodGround z) (kept : Kept) (s : StandsFor z kept) (thread : ℕ) where
+  wide : 32 ≤ z.sizes.small_words
+  wide = good.sizes.of_frames.small_words.0
 
-le_trans : {a b c : ℕ} → a ≤ b → b ≤ c → a ≤ c
-le_trans {a} {b} {c} first second = omega arith
+  from : 1 ≤ kept.free
+  from = omega (arith, s.few)
 
--- each object ends at or before the new free address
-all_below : (z : Ground) (g : Graph) (free free' : ℕ) (new : Object) →
-    ((n : ℕ) → n < g.born → end_of (words_of z (g.object n)) ≤ free) → free ≤ free' → end_of (words_of z new) ≤ free' →
-    (n : ℕ) → n < g.born + 1 → ((eqb n g.born ≡ true) × (n ≡ g.born)) ⊎ ((eqb n g.born ≡ false) × (n ≢ g.born)) →
-    end_of (words_of z (changed_at g.object g.born new n)) ≤ free'
-all_below z g free free' new old rises ends n small (inl e) = rw e.0 ends
-all_below z g free free' new old rises ends n small (inr e) =
-    let before : n < g.born = omega (arith, e.1) in
-    let ended = old n before in
-    rw e.0 (le_trans ended rises)
+  -- each object ends at or before a room that is found
+  birth_legal : (layout n room : ℕ) → room_at z.sizes kept.free (words_for z layout n) ≡ Some room →
+      IsLegalBirth z (graph_of kept.graph) (cell_at room (length_for z layout n))
+  unfolding wide from
+  birth_legal layout n room e =
+      let least = least_room z.sizes kept.free (words_for z layout n) room wide from e in
+      let is = is_room z.sizes kept.free (words_for z layout n) room least.0 in
+      record { in_frame = is.in_frame; free = λ m lives. inl (let old = s.below m lives.0 in omega (arith, is.from, old)) }
 
-pub given_birth : (z : Ground) (r layout room : ℕ) (kept : Kept) → 0 < z.sizes.threads → 32 ≤ z.sizes.small_words → 2 ≤ (cell_at z 0 layout 0).len → r < 16 →
-    IsFieldsLayout (slice_get z.layouts layout) → room_at z.sizes kept.free (cell_at z 0 layout 0).len ≡ Some room → Stands z kept →
-    Stands z (record {
-      history = kept.history ++ call_entry (New r layout) replies.Ok room ∷ [];
-      born = kept.born ++ cell_at z room layout 0 ∷ [];
-      locals = set kept.locals r (Some (length kept.born));
-      free = room + (cell_at z 0 layout 0).len;
-    })
-given_birth z r layout room kept threads wide long small fields has_room (g, stands) =
-    let new : Object = record { address = room; layout = layout; length = 0 } in
-    let least = least_room z.sizes kept.free (cell_at z 0 layout 0).len room wide (omega (arith, stands.few)) has_room in
-    let is = is_room z.sizes kept.free (cell_at z 0 layout 0).len room least.0 in (
-      with_birth g 0 r new,
-      goes_on z (call_entry (New r layout) replies.Ok room) kept _ g (with_birth g 0 r new) stands (record {
-        follows = record {
-          by_thread = threads;
-          epoch_is = refl;
-          in_range = (small, fields);
-          answer = inl (record {
-            reply_is = refl;
-            legal = record { in_frame = is.in_frame; free = λ n before. inl (le_trans (stands.below n before) is.from) };
-            after = refl;
-          });
-        };
-        placed = inl (refl, least.0, least.1);
-        history = refl;
-        born = refl;
-        free = refl;
-        count = ap (λ (x : ℕ). x + 1) stands.count ∙ sym (length-append kept.born (cell_at z room layout 0 ∷ []));
-        width = length-set kept.locals r (Some (length kept.born)) ∙ stands.width;
-        locals = subst (λ (x : ℕ). (q : ℕ) → q < 16 → slice_index_or (set kept.locals r (Some x)) q None ≡ changed_at (g.local 0) r (Some g.born) q) stands.count
-            (local_written kept.locals (g.local 0) r (Some g.born) stands.width small stands.locals);
-        below = λ n before. all_below z g kept.free _ new stands.below (omega (arith, is.from)) (omega arith) n before (eqb_tells n g.born);
-        few = let longer = length-append kept.born (cell_at z room layout 0 ∷ []) in omega (arith, stands.few, is.from);
+  may_be : (layout n : ℕ) (room : Option ℕ) → room_at z.sizes kept.free (words_for z layout n) ≡ room →
+      is_full (seen_of (cell_with (words_for z layout n) room)) ≡ false →
+      IsLegalBirth z (graph_of kept.graph) (cell_at (start_of (cell_with (words_for z layout n) room)) (length_for z layout n))
+  may_be layout n None e found = cc
+  may_be layout n (Some room) e found = birth_legal layout n room e
+
+  -- what is seen of a call that looked for a room decides no more than it may
+  pub is_seen : (made : Call) → IsAnswerable made → IsSeen z (graph_of kept.graph) made (start_of (room_of z kept.free made))
+      (seen_of (room_of z kept.free made))
+  is_seen (call.New r layout) may = may_be layout 0 _ refl
+  is_seen (call.NewArray r layout n) may = may_be layout n _ refl
+  is_seen call.Collect may = absurd may
+  is_seen made may = tt
+
+  birth_enters : (layout n : ℕ) (made : Call) (reply : Reply) (r address : ℕ) (g' : Graph) (room : Option ℕ) →
+      room_at z.sizes kept.free (words_for z layout n) ≡ room → is_full reply ≡ is_full (seen_of (cell_with (words_for z layout n) room)) →
+      AnswersNew z thread r layout (length_for z layout n) (graph_of kept.graph) reply address g' →
+      (cond (is_full reply) 0 (start_of (cell_with (words_for z layout n) room)) ≡ start_of (cell_with (words_for z layout n) room))
+      × IsPlaced z.sizes kept.free (words_for z layout n) reply (start_of (cell_with (words_for z layout n) room))
+      × (cell_where_ok reply (cell_at (start_of (cell_with (words_for z layout n) room)) (length_for z layout n)) ≡ cells_of
+      (cell_with (words_for z layout n) room))
+  unfolding wide from
+  birth_enters layout n made reply r address g' room e seen a =
+      let ok = born_or_full z thread r layout (length_for z layout n) (graph_of kept.graph) reply address g' a in
+      let some : 1 ≤ words_for z layout n = omega arith in (
+        told_room z kept.free (words_for z layout n) wide from some reply room seen,
+        placed_room z kept.free (words_for z layout n) wide from some reply room e seen ok,
+        cell_room z kept.free (words_for z layout n) wide from some reply room (length_for z layout n) refl seen ok,
+      )
+
+  -- an answered call tells the room that was found
+  enters : (made : Call) (reply : Reply) (g' : Graph) → IsAnswerable made →
+      IsAnswered z thread made (start_of (room_of z kept.free made)) (seen_of (room_of z kept.free made)) (graph_of kept.graph) reply g' →
+      Enters z kept.free made reply (room_of z kept.free made)
+  enters (call.New r layout) reply g' may a =
+      let is = birth_enters layout 0 (call.New r layout) reply r _ _ _ refl a.as_seen a.follows.event.answer in
+      record { told = is.0; placed = is.1; cells = is.2 }
+  enters (call.NewArray r layout n) reply g' may a =
+      let is = birth_enters layout n (call.NewArray r layout n) reply r _ _ _ refl a.as_seen a.follows.event.answer in
+      record { told = is.0; placed = is.1; cells = is.2 }
+  enters call.Collect reply g' may a = absurd may
+  enters made reply g' may a = record { told = refl; placed = tt; cells = refl }
+
+  old_below : (after : Graph) → Succeeds (graph_of kept.graph) after → (free : ℕ) → kept.free ≤ free →
+      (n : ℕ) → n < (graph_of kept.graph).born → end_of (words_of (shapes after n)) ≤ free
+  old_below after succeeds free rises n near =
+      let o = succeeds.objects n near in
+      let old = s.below n near in
+      let same : end_of (words_of (shapes after n)) ≡ end_of (words_of (shapes (graph_of kept.graph) n)) =
+      ap (λ (p : ℕ × ℕ). end_of (cell_at p.0 p.1)) (pair o.address o.length) in
+      omega (arith, same, old)
+    where
+      pair : {a b c d : ℕ} → a ≡ b → c ≡ d → ◌≡◌ {A = ℕ × ℕ} (a, c) (b, d)
+      pair p q = λ t. (p t, q t)
+
+  -- a graph with no object more
+  grows_none : (after : Graph) → Succeeds (graph_of kept.graph) after → after.born ≡ (graph_of kept.graph).born → Grows z after kept.free
+  grows_none after succeeds same = record {
+    below = λ n near. let old : n < (graph_of kept.graph).born = omega (arith, same) in old_below after succeeds kept.free (omega arith) n old;
+    few = omega (arith, s.few, same);
+    free_to = s.free_to;
+  }
+
+  -- a graph with one object more, at the room that was found
+  one_below : (after : Graph) (n room free : ℕ) (new : Object) → Succeeds (graph_of kept.graph) after → kept.free ≤ free →
+      after.object (graph_of kept.graph).born ≡ new → end_of (cell_at new.address new.length) ≤ free → n < (graph_of kept.graph).born + 1 →
+      Tells n (graph_of kept.graph).born → end_of (words_of (shapes after n)) ≤ free
+  one_below after n room free new succeeds rises is ends near (inl t) =
+      subst (λ k. end_of (words_of (shapes after k)) ≤ free) (sym t.1) (subst (λ (o : Object). end_of (cell_at o.address o.length) ≤ free) (sym is) ends)
+  one_below after n room free new succeeds rises is ends near (inr t) =
+      let ne : n ≢ (graph_of kept.graph).born = t.1 in
+      let old : n < (graph_of kept.graph).born = omega arith in
+      old_below after succeeds free rises n old
+
+  grows_one : (r layout n room epoch : ℕ) (mid after : Graph) → room_at z.sizes kept.free (words_for z layout n) ≡ Some room →
+      Succeeds (graph_of kept.graph) after → mid ≡ with_birth (graph_of kept.graph) thread r (newborn room layout (length_for z layout n)) →
+      after ≡ with_entered mid thread epoch → Grows z after (room + words_for z layout n)
+  unfolding wide from
+  grows_one r layout n room epoch mid after e succeeds born entered =
+      let least = least_room z.sizes kept.free (words_for z layout n) room wide from e in
+      let is = is_room z.sizes kept.free (words_for z layout n) room least.0 in
+      let made = entered ∙ ap (λ (x : Graph). with_entered x thread epoch) born in
+      let new : Object = newborn room layout (length_for z layout n) in
+      let count : after.born ≡ (graph_of kept.graph).born + 1 = ap (λ (x : Graph). x.born) made in
+      let here : after.object (graph_of kept.graph).born ≡ new =
+      ap (λ (x : Graph). x.object (graph_of kept.graph).born) made ∙ upd_here (graph_of kept.graph).object (graph_of kept.graph).born new in
+      record {
+        below = λ m near. let less : m < (graph_of kept.graph).born + 1 = omega (arith, count) in
+            one_below after m room (room + words_for z layout n) new succeeds (omega (arith, is.from)) here (omega arith) less
+            (eqb_tells m (graph_of kept.graph).born);
+        few = omega (arith, s.few, count, is.from);
         free_to = is.to;
-      }),
-    )
+      }
 
-each_none : (locals : List (Option ℕ)) → AllByRecursion (λ (x : Option ℕ). x ≡ None) locals → (r : ℕ) → slice_index_or locals r None ≡ None
-each_none [] all r = refl
-each_none (x ∷ xs) all zero = all.0
-each_none (x ∷ xs) all (suc r) = each_none xs all.1 r
+  birth_grows : (r layout n epoch address : ℕ) (reply : Reply) (mid after : Graph) (room : Option ℕ) →
+      room_at z.sizes kept.free (words_for z layout n) ≡ room →
+      is_full reply ≡ is_full (seen_of (cell_with (words_for z layout n) room)) → address ≡ start_of (cell_with (words_for z layout n) room) →
+      Succeeds (graph_of kept.graph) after → AnswersNew z thread r layout (length_for z layout n) (graph_of kept.graph) reply address mid →
+      after ≡ with_entered mid thread epoch → Grows z after (behind kept.free (cells_of (cell_with (words_for z layout n) room)))
+  birth_grows r layout n epoch address reply mid after None e seen at succeeds (inl born) entered =
+      let h : is_full reply ≡ false = ap is_full born.reply_is in cc
+  birth_grows r layout n epoch address reply mid after (Some room) e seen at succeeds (inl born) entered =
+      grows_one r layout n room epoch mid after e succeeds
+      (born.after ∙ ap (λ a. with_birth (graph_of kept.graph) thread r (newborn a layout (length_for z layout n))) at) entered
+  birth_grows r layout n epoch address reply mid after None e seen at succeeds (inr full) entered =
+      grows_none after succeeds (ap (λ (x : Graph). x.born) (entered ∙ ap (λ (x : Graph). with_entered x thread epoch) full.after))
+  birth_grows r layout n epoch address reply mid after (Some room) e seen at succeeds (inr full) entered =
+      let h : is_full reply ≡ true = ap is_full full.reply_is in cc
 
--- nothing was born, and each local is null
-pub starts : (z : Ground) (history : List Entry) (born : List Span) (locals : List (Option ℕ)) → history ≡ [] → born ≡ [] →
-    length locals ≡ 16 → AllByRecursion (λ (x : Option ℕ). x ≡ None) locals →
-    Stands z (record { history = history; born = born; locals = locals; free = 1 })
-starts z history born locals no_history no_births width all = (
-  empty_graph,
-  record {
-    replay = rw no_history refl;
-    births = rw (no_history, no_births) refl;
-    count = rw no_births refl;
-    width = width;
-    locals = λ r small. each_none locals all r;
-    below = λ n small. absurd (omega arith);
-    placed = rw no_history tt;
-    free_is = rw no_history refl;
-    few = rw no_births (omega arith);
-    free_to = omega arith;
-  },
-)
+  -- the graph behind an answered call, with the room that it took
+  grows : (made : Call) (reply : Reply) (after : Graph) → IsAnswerable made →
+      told_address made reply (start_of (room_of z kept.free made)) ≡ start_of (room_of z kept.free made) →
+      Succeeds (graph_of kept.graph) after → after.born ≡ cond (makes_object made && is_ok reply) 1 0 + (graph_of kept.graph).born →
+      IsAnswered z thread made (start_of (room_of z kept.free made)) (seen_of (room_of z kept.free made)) (graph_of kept.graph) reply after →
+      Grows z after (behind kept.free (cells_of (room_of z kept.free made)))
+  grows (call.New r layout) reply after may told succeeds born a =
+      birth_grows r layout 0 _ _ reply _ after _ refl a.as_seen told succeeds a.follows.event.answer a.follows.after
+  grows (call.NewArray r layout n) reply after may told succeeds born a =
+      birth_grows r layout n _ _ reply _ after _ refl a.as_seen told succeeds a.follows.event.answer a.follows.after
+  grows call.Collect reply after may told succeeds born a = absurd may
+  grows made reply after may told succeeds born a = grows_none after succeeds (born ∙ omega arith)
 
--- what is kept after a birth of n words
-abbrev born_kept : Ground → ℕ → ℕ → ℕ → ℕ → Kept → Kept
-born_kept z r number n room kept = record {
-  history = kept.history ++ call_entry (New r number) replies.Ok room ∷ [];
-  born = kept.born ++ record { start = room; len = n } ∷ [];
-  locals = set kept.locals r (Some (length kept.born));
-  free = room + n;
-}
+  -- an answered call goes into the history, and what is kept stands for that
+  pub stands_on : (made : Call) (reply : Reply) (after : Replay) → IsAnswerable made → IsInRange z made → after.ground ≡ kept.graph.ground →
+      Answers z thread made (start_of (room_of z kept.free made)) (seen_of (room_of z kept.free made)) (graph_of kept.graph) reply (graph_of after) →
+      StandsFor z (with_entry (record kept { graph = after })
+      (call_entry thread (graph_of kept.graph).paused made reply (start_of (room_of z kept.free made))) (room_of z kept.free made))
+  stands_on made reply after may fit ground answers =
+      let room = room_of z kept.free made in
+      let entry = call_entry thread (graph_of kept.graph).paused made reply (start_of room) in
+      let a = is_answered z thread made (start_of room) (seen_of room) (graph_of kept.graph) reply (graph_of after) may answers in
+      let told = enters made reply (graph_of after) may a in
+      let sound = legal_sound z kept.history (graph_of kept.graph) s.replay in
+      let follows = subst (λ address. Follows z (call_entry thread (graph_of kept.graph).paused made reply address) (graph_of kept.graph) (graph_of after))
+      told.told a.follows in
+      let succeeds = next_succeeds z entry (graph_of kept.graph) (graph_of after) sound follows in
+      let born = ap (λ (x : Graph). x.born) a.follows.after
+      ∙ answer_born z thread (graph_of kept.graph) sound reply _ a.follows.graph made fit a.follows.event.answer in
+      let grown = grows made reply (graph_of after) may told.told succeeds born a in
+      record {
+        ground = ground ∙ s.ground;
+        replay = appended z kept.history entry empty_graph (graph_of kept.graph) (graph_of after) s.replay follows;
+        logs = LogsFit-append (z.sizes.threads + 2) kept.logs kept.history entry s.logs;
+        births = ap (λ (x : List Span). x ++ cells_of room) s.births ∙ ap (λ (x : List Span). births_of z kept.history ++ x) (sym told.cells)
+            ∙ sym (births_of-append z kept.history entry);
+        placed = ArePlaced-append z 1 kept.history entry s.placed (subst (λ x. EventIsPlaced z x entry.what) s.free_is told.placed);
+        below = grown.below;
+        free_is = ap (behind kept.free) (sym told.cells) ∙ ap (λ x. behind x (cell_in z entry.what)) s.free_is
+            ∙ sym (free_after-append z 1 kept.history entry);
+        few = grown.few;
+        free_to = grown.free_to;
+      }
 
--- one more call in the log of thread 0
-pub log_noted : (history : List Entry) (call : Call) (reply : Reply) (address : ℕ) →
-    calls_of (log_of 0 (history ++ call_entry call reply address ∷ [])) ≡ calls_of (log_of 0 history) ++ call ∷ []
-log_noted history call reply address = rw (filter-append, flat_map-append) refl
+  -- few objects were born
+  pub few_born : (graph_of kept.graph).born < 1000001
+  few_born = let sizes = good.sizes.of_frames in let words = sizes.words.1 in omega (arith, s.few, s.free_to)
 
-none_or_some : {A : Type 0} (o : Option A) → (o ≡ None) ⊎ ((x : A) × (o ≡ Some x))
-none_or_some None = inl refl
-none_or_some (Some x) = inr (x, refl)
+  -- the same where each part is known by an equation
+  pub seen_at : (made : Call) (room : Option Span) (start : ℕ) (seen : Reply) (before : Replay) → IsAnswerable made → before ≡ kept.graph →
+      room ≡ room_of z kept.free made → start ≡ start_of room → seen ≡ seen_of room → IsSeen before.ground (graph_of before) made start seen
+  seen_at made room start seen before may same found at seen_is =
+      let base = is_seen made may in
+      let there = subst (λ (r : Option Span). IsSeen z (graph_of kept.graph) made (start_of r) (seen_of r)) (sym found) base in
+      let here = subst (λ k. IsSeen z (graph_of kept.graph) made k (seen_of room)) (sym at) there in
+      let now = subst (λ (r : Reply). IsSeen z (graph_of kept.graph) made start r) (sym seen_is) here in
+      let grounded = subst (λ (y : Ground). IsSeen y (graph_of kept.graph) made start seen) (sym s.ground) now in
+      subst (λ (r : Replay). IsSeen r.ground (graph_of r) made start seen) (sym same) grounded
 
--- what a birth may leave: `full` where there is no room, and the cell where there is
-pub record IsBirth (z : Ground) (r number n : ℕ) (kept kept' : Kept) {T E : Type 0} (result : Result T E) : Type 0 where
-  pub full : room_at z.sizes kept.free n ≡ None → OnOk result (kept' ≡ record kept {
-    history = kept.history ++ call_entry (New r number) replies.Full 0 ∷ [];
-  })
-  pub born : (room : ℕ) → room_at z.sizes kept.free n ≡ Some room → OnOk result (kept' ≡ record {
-    history = kept.history ++ call_entry (New r number) replies.Ok room ∷ [];
-    born = kept.born ++ record { start = room; len = n } ∷ [];
-    locals = set kept.locals r (Some (length kept.born));
-    free = room + n;
-  })
-
--- a call that a birth may be
-pub record MayBirth (z : Ground) (r number n : ℕ) : Type 0 where
-  pub threads : 0 < z.sizes.threads
-  pub wide : 32 ≤ z.sizes.small_words
-  pub long : 2 ≤ n
-  pub words : (cell_at z 0 number 0).len ≡ n
-  pub local : r < 16
-  pub fields : IsFieldsLayout (slice_get z.layouts number)
-
-birth_stands_at : (z : Ground) (r number n : ℕ) (kept kept' : Kept) {T E : Type 0} (result : Result T E) → MayBirth z r number n →
-    IsBirth z r number n kept kept' result → Stands z kept →
-    (room_at z.sizes kept.free n ≡ None) ⊎ ((room : ℕ) × (room_at z.sizes kept.free n ≡ Some room)) → OnOk result (Stands z kept')
-birth_stands_at z r number n kept kept' result may is stands (inl none) = on_ok_weaker result
-    (λ (e : kept' ≡ record kept { history = kept.history ++ call_entry (New r number) replies.Full 0 ∷ [] }). subst (Stands z) (sym e)
-    (refused z r number kept may.threads may.wide (subst (λ (m : ℕ). 2 ≤ m) (sym may.words) may.long) may.local may.fields (ap (room_at z.sizes kept.free) may.words ∙ none) stands)) (is.full none)
-birth_stands_at z r number n kept kept' result may is stands (inr (room, some)) = on_ok_weaker result
-    (λ (e : kept' ≡ born_kept z r number n room kept). subst (Stands z) (sym e)
-    (subst (λ (m : ℕ). Stands z (born_kept z r number m room kept)) may.words
-    (given_birth z r number room kept may.threads may.wide (subst (λ (m : ℕ). 2 ≤ m) (sym may.words) may.long) may.local may.fields
-    (ap (room_at z.sizes kept.free) may.words ∙ some) stands))) (is.born room some)
-
-pub birth_stands : (z : Ground) (r number n : ℕ) (kept kept' : Kept) {T E : Type 0} (result : Result T E) → MayBirth z r number n →
-    IsBirth z r number n kept kept' result → Stands z kept → OnOk result (Stands z kept')
-birth_stands z r number n kept kept' result may is stands = birth_stands_at z r number n kept kept' result may is stands (none_or_some _)
-
-birth_answers_at : (z : Ground) (r number n : ℕ) (kept kept' : Kept) {T E : Type 0} (result : Result T E) →
-    IsBirth z r number n kept kept' result →
-    (room_at z.sizes kept.free n ≡ None) ⊎ ((room : ℕ) × (room_at z.sizes kept.free n ≡ Some room)) →
-    OnOk result (calls_of (log_of 0 kept'.history) ≡ calls_of (log_of 0 kept.history) ++ New r number ∷ [])
-birth_answers_at z r number n kept kept' result is (inl none) = on_ok_weaker result
-    (λ (e : kept' ≡ record kept { history = kept.history ++ call_entry (New r number) replies.Full 0 ∷ [] }).
-    ap (λ (k : Kept). calls_of (log_of 0 k.history)) e ∙ log_noted kept.history (New r number) replies.Full 0) (is.full none)
-birth_answers_at z r number n kept kept' result is (inr (room, some)) = on_ok_weaker result
-    (λ (e : kept' ≡ born_kept z r number n room kept).
-    ap (λ (k : Kept). calls_of (log_of 0 k.history)) e ∙ log_noted kept.history (New r number) replies.Ok room) (is.born room some)
-
-pub birth_answers : (z : Ground) (r number n : ℕ) (kept kept' : Kept) {T E : Type 0} (result : Result T E) →
-    IsBirth z r number n kept kept' result → OnOk result (calls_of (log_of 0 kept'.history) ≡ calls_of (log_of 0 kept.history) ++ New r number ∷ [])
-birth_answers z r number n kept kept' result is = birth_answers_at z r number n kept kept' result is (none_or_some _)
-
-fields_within : (layouts : List Layout) (i : ℕ) → IsFieldsLayout (slice_get layouts i) → i < length layouts
-fields_within [] i fields = absurd fields
-fields_within (x ∷ xs) zero fields = omega arith
-fields_within (x ∷ xs) (suc i) fields = let within = fields_within xs i fields in omega arith
-
--- the layout that a birth reads is the one of its number
-pub fields_read : (layouts : List Layout) (i : ℕ) (layout : Layout) → IsFieldsLayout (slice_get layouts i) →
-    layout ≡ get_or layouts i layout → slice_get layouts i ≡ Some layout
-fields_read layouts i layout fields is = slice_get_read layouts (length layouts) i layout refl (fields_within layouts i fields) is
-
-pub may_birth : (z : Ground) (r number : ℕ) (layout : Layout) → IsGood z.sizes → r < 16 → IsFieldsLayout (slice_get z.layouts number) →
-    layout ≡ get_or z.layouts number layout → MayBirth z r number (size_of layout 0)
-may_birth z r number layout good local fields is = record {
-  threads = good.of_threads.threads.0;
-  wide = good.of_frames.small_words.0;
-  long = omega arith;
-  words = ap (λ (o : Option Layout). words_for o 0) (fields_read z.layouts number layout fields is);
-  local = local;
-  fields = fields;
-}
+  pub answered_stands : (made : Call) (reply : Reply) (room : Option Span) (start epoch : ℕ) (seen : Reply) (before after : Replay) → IsAnswerable made →
+      IsInRange z made →
+      before ≡ kept.graph → room ≡ room_of z kept.free made → start ≡ start_of room → seen ≡ seen_of room → epoch ≡ (graph_of before).paused →
+      after.ground ≡ before.ground → Answers before.ground thread made start seen (graph_of before) reply (graph_of after) →
+      StandsFor z (with_entry (record kept { graph = after }) (call_entry thread epoch made reply start) room)
+  answered_stands made reply room start epoch seen before after may fit same found at seen_is epoch_is ground answers =
+      let moved = subst (λ (r : Replay). Answers r.ground thread made start seen (graph_of r) reply (graph_of after)) same answers in
+      let grounded = subst (λ (y : Ground). Answers y thread made start seen (graph_of kept.graph) reply (graph_of after)) s.ground moved in
+      let at_start = subst (λ k. Answers z thread made k seen (graph_of kept.graph) reply (graph_of after)) at grounded in
+      let as_seen = subst (λ (r : Reply). Answers z thread made (start_of room) r (graph_of kept.graph) reply (graph_of after)) seen_is at_start in
+      let in_room = subst (λ (r : Option Span). Answers z thread made (start_of r) (seen_of r) (graph_of kept.graph) reply (graph_of after)) found as_seen in
+      let base = stands_on made reply after may fit (ground ∙ ap (λ (r : Replay). r.ground) same) in_room in
+      let entry : ℕ → ℕ → Entry = λ e k. call_entry thread e made reply k in
+      let paused = epoch_is ∙ ap (λ (r : Replay). (graph_of r).paused) same in
+      let told = at ∙ ap start_of found in
+      subst (λ (r : Option Span). StandsFor z (with_entry (record kept { graph = after }) (entry epoch start) r)) (sym found)
+      (subst (λ k. StandsFor z (with_entry (record kept { graph = after }) (entry epoch k) (room_of z kept.free made))) (sym told)
+      (subst (λ e. StandsFor z (with_entry (record kept { graph = after }) (entry e (start_of (room_of z kept.free made))) (room_of z kept.free made)))
+      (sym paused) base))

@@ -1,8 +1,9 @@
-pub mod Kept
+pub mod Births
 pub mod Rooms
+pub mod Kept
 pub mod Stands
 pub mod Runs
-pub mod Reports
+pub mod Refusals
 pub mod Words
 pub mod Numbers
 pub mod Ends

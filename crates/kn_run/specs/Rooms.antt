@@ -5,6 +5,7 @@ use Rattle.kn_base.specs.declared.numbers.Span.{Span}
 use Rattle.kn_base.specs.declared.heap.Sizes.{Sizes}
 use Rattle.kn_base.specs.Spans.{end_of, LiesIn}
 use Rattle.kn_base.specs.Sizes.{span_of_frame}
+use Rattle.kn_layout.specs.Layouts.{cell_size}
 use Rattle.kn_graph.specs.declared.calls.Call.{Call}
 use Rattle.kn_graph.specs.declared.calls.Call.TheVariants.{New, NewArray}
 use Rattle.kn_graph.specs.declared.calls.Reply.{Reply}
@@ -12,8 +13,9 @@ use Rattle.kn_graph.specs.declared.calls.Reply.TheVariants as replies
 use Rattle.kn_graph.specs.declared.entries.Event.{Event}
 use Rattle.kn_graph.specs.declared.entries.Event.TheVariants as events
 use Rattle.kn_graph.specs.declared.entries.Entry.{Entry}
-use Rattle.kn_graph.specs.Graph.{Ground, cell_at}
-use Rattle.kn_graph.specs.Logs.{cell_in}
+use Rattle.kn_graph.specs.Ground.{Ground}
+use Rattle.kn_graph.specs.Graph.{length_for}
+use Rattle.kn_run.specs.Births.{cell_in}
 
 -- n words from an address on, at or behind the free address, lie in one small frame
 pub record Fits (z : Sizes) (free n address : ℕ) : Type 0 where
@@ -35,10 +37,14 @@ abbrev pub behind : ℕ → List Span → ℕ
 behind free [] = free
 behind free (cell ∷ cells) = end_of cell
 
+-- the words of a cell for an object of this layout and length
+abbrev pub words_for : Ground → ℕ → ℕ → ℕ
+words_for z layout n = cell_size (length_for z layout n)
+
 -- a call that is no birth has no place
 abbrev pub CallIsPlaced : Ground → ℕ → Call → Reply → ℕ → Type 0
-CallIsPlaced z free (New r layout) reply address = IsPlaced z.sizes free (cell_at z 0 layout 0).len reply address
-CallIsPlaced z free (NewArray r layout n) reply address = IsPlaced z.sizes free (cell_at z 0 layout n).len reply address
+CallIsPlaced z free (New r layout) reply address = IsPlaced z.sizes free (words_for z layout 0) reply address
+CallIsPlaced z free (NewArray r layout n) reply address = IsPlaced z.sizes free (words_for z layout n) reply address
 CallIsPlaced z free _ reply address = Unit {0}
 
 abbrev pub EventIsPlaced : Ground → ℕ → Event → Type 0
@@ -68,10 +74,22 @@ ends_within z address n = nat_lt (frame_at z address) z.small && nat_le (offset_
 
 -- the first word of the small frame after that of an address, where there is one and a cell of n words fits into a small frame
 abbrev pub next_frame : Sizes → ℕ → ℕ → Option ℕ
-next_frame z address n = if nat_lt (frame_at z address + 1) z.small && nat_le n z.small_words then Some (1 + (frame_at z address + 1) * z.small_words) else None
+next_frame z address n = if nat_lt (frame_at z address + 1) z.small && nat_le n z.small_words then Some
+    (1 + (frame_at z address + 1) * z.small_words) else None
 
 -- the least room of n words at or behind an address, computed: there, or, where they would cross the end
 -- of their small frame, at the start of the next one; none where the cell is longer than a small frame or
 -- there is no next one
 abbrev pub room_at : Sizes → ℕ → ℕ → Option ℕ
 room_at z address n = if ends_within z address n then Some address else next_frame z address n
+
+-- the cell of a birth that finds room
+abbrev pub cell_with : ℕ → Option ℕ → Option Span
+cell_with n None = None
+cell_with n (Some room) = Some (record { start = room; len = n })
+
+-- the cell that a call takes: the least room for its words at or behind an address; none where there is no room, or the call is no birth
+abbrev pub room_of : Ground → ℕ → Call → Option Span
+room_of z free (New r layout) = cell_with (words_for z layout 0) (room_at z.sizes free (words_for z layout 0))
+room_of z free (NewArray r layout n) = cell_with (words_for z layout n) (room_at z.sizes free (words_for z layout n))
+room_of z free _ = None

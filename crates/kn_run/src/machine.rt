@@ -1,30 +1,31 @@
-ghost use Rattle.std.specs.Prelude.{◌≡◌, ℕ, ◌+◌, ◌^◌, ◌<◌, ◌≤◌, ◌++◌, [], ◌∷◌, OnOk, IfOk, Some, None, Option, List, length, slice_index_or, slice_set, slice_get};
-ghost use Rattle.std.specs.List.{AllByRecursion};
+ghost use Rattle.std.specs.Prelude.{◌≡◌, ℕ, ◌<◌, ◌≤◌, ◌+◌, ◌^◌, [], Some, None, OnOk, IfOk, IfSome, length, slice_index_or};
 ghost use Rattle.kn_base.specs.Sizes.{IsGood, small_area};
-ghost use Rattle.kn_graph.specs.Graph.{Ground, cell_at};
-ghost use Rattle.kn_graph.specs.Ranges.{IsInRange, IsFieldsLayout};
-ghost use Rattle.kn_graph.specs.Layouts.{IsLayout, size_of};
-ghost use Rattle.kn_graph.specs.Answers.{is_same, yes_or_no};
-ghost use Rattle.kn_graph.specs.Logs.{log_of, calls_of};
 ghost use Rattle.kn_base.specs.Spans.{end_of};
+ghost use Rattle.kn_graph.specs.Ground.{IsGoodGround};
+ghost use Rattle.kn_graph.specs.Arguments.{IsInRange};
+ghost use Rattle.kn_layout.specs.Layouts.{IsLayout, size_of};
 ghost use Rattle.kn_run.specs.Kept.{Kept};
-ghost use Rattle.kn_run.specs.Rooms.{room_at};
-ghost use Rattle.kn_run.specs.Stands.{Stands, call_entry};
+ghost use Rattle.kn_run.specs.Rooms.{cell_with, room_at, room_of};
+ghost use Rattle.kn_run.specs.Stands.{IsAnswerable, Notes, StandsFor, seen_of, start_of, with_entry};
 
 use crate::cells::Cells;
 use crate::rooms::room_for;
 use kn_base::{Caller, Sizes, Span};
-use kn_graph::{Call, Entry, Event, Layout, Reply, cell_words};
+use kn_graph::{Call, Entry, Event, Graph, Reply};
+use kn_layout::{Layout, cell_words};
+use kn_report::Log;
 use std::alloc::{AllocError, Global};
 use std::marker::Model;
 
-/// What one thread's run keeps. A local holds null or a cell, by its place among the cells born.
-/// Contracts see the record `Kept` in `specs/Kept.antt`.
+/// What a run keeps. Contracts see the record `Kept` in `specs/Kept.antt`. From its opening on, and
+/// behind each call that was answered, it stands for the history that it has (`StandsFor` in
+/// `specs/Stands.antt`); a run whose memory ran out is dropped.
 #[derive(Drop)]
 pub struct Machine {
+    graph: Graph,
     history: Vec<Entry>,
+    logs: Vec<Log>,
     born: Vec<Span>,
-    locals: [Option<u32>; 16],
     free: u32,
 }
 
@@ -34,176 +35,159 @@ impl Model for Machine {
     ghost Value = { Kept };
 
     ghost view = { λ machine. record {
+      graph = machine.graph;
       history = machine.history.items;
+      logs = machine.logs.items;
       born = machine.born.items;
-      locals = machine.locals;
       free = machine.free;
     } };
 }
 
+/// An empty log for each of so many callers.
+fn open_logs(alloc: Global, callers: u32) -> Result<Vec<Log>, AllocError>
+    ensures count { IfOk result (λ logs. length logs.items ≡ callers) }
+    ensures empty { IfOk result (λ logs. (by : ℕ) → slice_index_or logs.items by [] ≡ []) }
+{
+    let mut logs = Vec::new(alloc);
+    for _ in 0..callers {
+        logs.push(Log::new(alloc))?;
+    }
+    Ok(logs)
+}
+
+/// The cell of a birth of this layout and length, where there is room for it at or behind the free
+/// address.
+fn birth_room(sizes: &Sizes, free: u32, layout: &Layout, length: u32) -> Option<Span>
+    requires good { IsGood sizes.now }
+    requires layout_fits { IsLayout layout.now }
+    requires length_fits { length ≤ 60000 }
+    requires from { 1 ≤ free }
+    requires to { free ≤ 1 + small_area sizes.now }
+    ensures { result ≡ cell_with (size_of layout.now length) (room_at sizes.now free (size_of layout.now length)) }
+{
+    let len = cell_words(layout, length);
+    room_for(sizes, free, len).map(|start| Span { start, len })
+}
+
+/// Where the cell of a call is, and 0 where it has none.
+fn start_of(room: Option<Span>) -> u32
+    ensures { result ≡ start_of room }
+{
+    match room {
+        Some(cell) => cell.start,
+        None => 0,
+    }
+}
+
+/// What is seen of a call: `Full` where it took no room. Only births look at it today; a tie would
+/// be answered `full`.
+fn seen_of(room: Option<Span>) -> Reply
+    ensures { result ≡ seen_of room }
+{
+    match room {
+        Some(_) => Reply::Ok,
+        None => Reply::Full,
+    }
+}
+
 impl Machine {
-    pub fn new(alloc: Global) -> Machine
-        ensures stands { (z : Ground) → Stands z result }
-        ensures empty { result.history ≡ [] }
+    /// Nothing has happened. An error is want of memory.
+    pub fn open(alloc: Global, sizes: &Sizes, layouts: &[Layout]) -> Result<Machine, AllocError>
+        requires { IsGoodGround (record { sizes = sizes.now; layouts = layouts.now }) }
+        ensures stands { IfOk result (StandsFor (record { sizes = sizes.now; layouts = layouts.now })) }
+        ensures empty { IfOk result (λ machine. machine.history ≡ []) }
     {
-        Machine {
+        let graph = Graph::open(alloc, sizes, layouts)?;
+        let logs = open_logs(alloc, sizes.threads + 2)?;
+        Ok(Machine {
+            graph,
             history: Vec::new(alloc),
+            logs,
             born: Vec::new(alloc),
-            locals: [None; 16],
             free: 1,
+        })
+    }
+
+    /// The cell that a call takes (`room_of` in `specs/Rooms.antt`).
+    fn room_of(&self, sizes: &Sizes, layouts: &[Layout], call: &Call) -> Option<Span>
+        requires good { IsGoodGround (record { sizes = sizes.now; layouts = layouts.now }) }
+        requires in_range { IsInRange (record { sizes = sizes.now; layouts = layouts.now }) call.now }
+        requires from { 1 ≤ self.now.free }
+        requires to { self.now.free ≤ 1 + small_area sizes.now }
+        ensures { result ≡ room_of (record { sizes = sizes.now; layouts = layouts.now }) self.now.free call.now }
+    {
+        match call {
+            Call::New(_, layout) => {
+                birth_room(sizes, self.free, &layouts[usize::from(*layout)], 0)
+            }
+            Call::NewArray(_, layout, length) => {
+                birth_room(sizes, self.free, &layouts[usize::from(*layout)], *length)
+            }
+            _ => None,
         }
     }
 
-    fn note(&mut self, call: Call, reply: Reply, address: u32) -> Result<(), AllocError>
-        ensures { OnOk result (self.new ≡ record self.old { history = self.old.history ++ call_entry call reply address ∷ [] }) }
+    /// Puts an entry into the history and its caller's log, and keeps the cell that it took.
+    fn keep(&mut self, entry: Entry, room: Option<Span>) -> Result<(), AllocError>
+        requires caller { entry.by.0 < length self.old.logs }
+        requires ends { IfSome room (λ cell. end_of cell < 2 ^ 32) }
+        ensures { OnOk result (self.new ≡ with_entry self.old entry room) }
     {
-        self.history.push(Entry {
-            by: Caller(0),
-            epoch: 0,
-            what: Event::Call(call, reply, address),
-        })?;
-        Ok(())
-    }
-
-    fn local(&self, r: u8) -> Option<u32>
-        requires { r < 16 }
-        ensures { result ≡ slice_index_or self.now.locals r None }
-    {
-        self.locals[usize::from(r)]
-    }
-
-    fn set_local(&mut self, r: u8, value: Option<u32>)
-        requires { r < 16 }
-        ensures { self.new ≡ record self.old { locals = slice_set self.old.locals r value } }
-    {
-        self.locals[usize::from(r)] = value;
-    }
-
-    fn copy(&mut self, r: u8, s: u8) -> Result<(), AllocError>
-        requires local { r < 16 }
-        requires source { s < 16 }
-        ensures { OnOk result (self.new ≡ record self.old {
-          history = self.old.history ++ call_entry (Call.Copy r s) Reply.Ok 0 ∷ [];
-          locals = slice_set self.old.locals r (slice_index_or self.old.locals s None);
-        }) }
-    {
-        let value = self.local(s);
-        self.note(Call::Copy(r, s), Reply::Ok, 0)?;
-        self.set_local(r, value);
-        Ok(())
-    }
-
-    fn clear(&mut self, r: u8) -> Result<(), AllocError>
-        requires { r < 16 }
-        ensures { OnOk result (self.new ≡ record self.old {
-          history = self.old.history ++ call_entry (Call.Clear r) Reply.Ok 0 ∷ [];
-          locals = slice_set self.old.locals r None;
-        }) }
-    {
-        self.note(Call::Clear(r), Reply::Ok, 0)?;
-        self.set_local(r, None);
-        Ok(())
-    }
-
-    fn same(&mut self, r: u8, s: u8) -> Result<(), AllocError>
-        requires local { r < 16 }
-        requires other { s < 16 }
-        ensures { OnOk result (self.new ≡ record self.old {
-          history = self.old.history ++ call_entry (Call.Same r s)
-              (yes_or_no (is_same (slice_index_or self.old.locals r None) (slice_index_or self.old.locals s None))) 0 ∷ [];
-        }) }
-    {
-        let reply = if are_same(self.local(r), self.local(s)) {
-            Reply::Yes
-        } else {
-            Reply::No
-        };
-        self.note(Call::Same(r, s), reply, 0)
-    }
-
-    /// A birth where there is room, and `full` where there is none.
-    fn birth(&mut self, sizes: &Sizes, layout: &Layout, r: u8, number: u8) -> Result<(), AllocError>
-        requires good { IsGood sizes.now }
-        requires layout_fits { IsLayout layout.now }
-        requires local { r < 16 }
-        requires from { 1 ≤ self.old.free }
-        requires to { self.old.free ≤ 1 + small_area sizes.now }
-        requires few { length self.old.born < self.old.free }
-        ensures full { room_at sizes.now self.old.free (size_of layout.now 0) ≡ None → OnOk result (self.new ≡ record self.old {
-          history = self.old.history ++ call_entry (Call.New r number) Reply.Full 0 ∷ [];
-        }) }
-        ensures born { (room : ℕ) → room_at sizes.now self.old.free (size_of layout.now 0) ≡ Some room → OnOk result (self.new ≡ record {
-          history = self.old.history ++ call_entry (Call.New r number) Reply.Ok room ∷ [];
-          born = self.old.born ++ record { start = room; len = size_of layout.now 0 } ∷ [];
-          locals = slice_set self.old.locals r (Some (length self.old.born));
-          free = room + size_of layout.now 0;
-        }) }
-    {
-        let call = Call::New(r, number);
-        let words = cell_words(layout, 0);
-        match room_for(sizes, self.free, words) {
-            None => self.note(call, Reply::Full, 0),
-            Some(start) => self.give_birth(call, r, Span { start, len: words }),
+        self.history.push(entry)?;
+        let log = &mut self.logs[usize::from(entry.by.0)];
+        log.push(entry)?;
+        if let Some(cell) = room {
+            self.born.push(cell)?;
+            self.free = cell.start + cell.len;
         }
-    }
-
-    fn give_birth(&mut self, call: Call, r: u8, cell: Span) -> Result<(), AllocError>
-        requires local { r < 16 }
-        requires few { length self.old.born < 2 ^ 32 }
-        requires ends { end_of cell < 2 ^ 32 }
-        ensures { OnOk result (self.new ≡ record {
-          history = self.old.history ++ call_entry call Reply.Ok cell.start ∷ [];
-          born = self.old.born ++ cell ∷ [];
-          locals = slice_set self.old.locals r (Some (length self.old.born));
-          free = end_of cell;
-        }) }
-    {
-        let number = self.born.len() as u32;
-        self.born.push(cell)?;
-        self.note(call, Reply::Ok, cell.start)?;
-        self.set_local(r, Some(number));
-        self.free = cell.start + cell.len;
         Ok(())
     }
 
-    /// Answers one call, which is of the built ones.
+    /// The number of calls that a thread has answered.
+    pub fn answered(&self, thread: u8) -> usize
+        requires { thread < length self.now.logs }
+        ensures { result ≡ length (slice_index_or self.now.logs thread []) }
+    {
+        let log = &self.logs[usize::from(thread)];
+        log.as_slice().len()
+    }
+
+    /// Answers a call of a thread, which awaits no epoch. A birth takes the least room behind the
+    /// cell born last. An error is want of memory.
     pub fn answer(
         &mut self,
         sizes: &Sizes,
         layouts: &[Layout],
+        thread: u8,
         call: Call,
     ) -> Result<(), AllocError>
-        requires good { IsGood sizes.now }
-        requires layouts_fit { AllByRecursion IsLayout layouts.now }
+        requires good { IsGoodGround (record { sizes = sizes.now; layouts = layouts.now }) }
+        requires thread { thread < sizes.now.threads }
+        requires answerable { IsAnswerable call }
         requires in_range { IsInRange (record { sizes = sizes.now; layouts = layouts.now }) call }
-        requires stands { Stands (record { sizes = sizes.now; layouts = layouts.now }) self.old }
-        ensures stands { OnOk result (Stands (record { sizes = sizes.now; layouts = layouts.now }) self.new) }
-        ensures answered { OnOk result (calls_of (log_of 0 self.new.history) ≡ calls_of (log_of 0 self.old.history) ++ call ∷ []) }
+        requires stands { StandsFor (record { sizes = sizes.now; layouts = layouts.now }) self.old }
+        ensures stands { OnOk result (StandsFor (record { sizes = sizes.now; layouts = layouts.now }) self.new) }
+        ensures noted { OnOk result (Notes thread call self.old.history self.new.history) }
     {
-        match call {
-            Call::New(r, number) => { self.birth(sizes, &layouts[usize::from(number)], r, number) }
-            Call::Copy(r, s) => self.copy(r, s),
-            Call::Clear(r) => self.clear(r),
-            Call::Same(r, s) => self.same(r, s),
-            _ => unreachable!(),
-        }
+        let room = self.room_of(sizes, layouts, &call);
+        let start = start_of(room);
+        let seen = seen_of(room);
+        let epoch = self.graph.epoch();
+        let reply = self.graph.answer(Caller(thread), &call, start, &seen)?;
+        let entry = Entry {
+            by: Caller(thread),
+            epoch,
+            what: Event::Call(call, reply, start),
+        };
+        self.keep(entry, room)
     }
 
-    /// What is left when the run is over.
-    pub fn into_cells(self) -> Cells
-        ensures history { result.history ≡ self.history }
-        ensures born { result.born ≡ self.born }
+    /// What is left when the run is over, and the logs.
+    pub fn into_parts(self) -> (Cells, Vec<Log>)
+        ensures history { result.0.history ≡ self.history }
+        ensures born { result.0.born ≡ self.born }
+        ensures logs { result.1.items ≡ self.logs }
     {
-        Cells::from_lists(self.history, self.born)
-    }
-}
-
-fn are_same(a: Option<u32>, b: Option<u32>) -> bool
-    ensures { result ≡ is_same a b }
-{
-    match (a, b) {
-        (None, None) => true,
-        (Some(a), Some(b)) => a == b,
-        _ => false,
+        (Cells::from_lists(self.history, self.born), self.logs)
     }
 }

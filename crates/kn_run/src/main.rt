@@ -1,11 +1,15 @@
-//! The program: reads a script, runs its thread and prints its replies.
+//! The program: reads a script, runs its threads a turn at a time and prints their replies.
 //!
 //! `run_words` is the whole program over devices that are handed in; `main` makes the real ones.
 #![tactic(auto)]
 
+ghost use Rattle.std.specs.Prelude.{◌≡◌, IfOk, IfErr};
+ghost use Rattle.std.specs.Process.{exit_status};
+ghost use Rattle.kn_run.specs.Numbers.{status_number};
+
 mod cells;
 mod machine;
-mod report;
+mod refusals;
 mod rooms;
 mod runs;
 mod status;
@@ -38,9 +42,16 @@ fn run_program(rt: &(impl Env + AllocGlobal + Input + Print)) -> io::Result<Stat
     Ok(run_words(rt.alloc(), &words, &mut source, &mut sink).status)
 }
 
+/// The exit number of the program, where want of memory stands for what it could not begin with.
+fn exit_of(ended: io::Result<Status>) -> ExitCode
+    ensures ended { IfOk ended (λ status. exit_status result ≡ status_number status) }
+    ensures memory { IfErr ended (λ error. exit_status result ≡ status_number Status.Memory) }
+{
+    ExitCode::from(ended.unwrap_or(Status::Memory).number())
+}
+
 fn main(rt: HostRuntime) -> ExitCode {
-    let status = run_program(&rt).unwrap_or(Status::Memory);
-    ExitCode::from(status.number())
+    exit_of(run_program(&rt))
 }
 
 #[cfg(test)]

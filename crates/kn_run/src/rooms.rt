@@ -1,4 +1,4 @@
-ghost use Rattle.std.specs.Prelude.{◌≡◌, ℕ, ◌+◌, ◌≤◌};
+ghost use Rattle.std.specs.Prelude.{◌≡◌, ◌+◌, ◌≤◌};
 ghost use Rattle.kn_base.specs.Sizes.{IsGood, small_area};
 ghost use Rattle.kn_run.specs.Rooms.{room_at};
 

@@ -1,190 +1,268 @@
-use crate::cells::Cells;
+use crate::exit_of;
 use crate::status::Status;
 use crate::trace::run_trace;
 use crate::words::run_words;
 use kn_base::Span;
-use kn_graph::{Event, Reply};
 use kn_io::{MemSink, MemSource};
+use kn_script::Why;
 use std::alloc::{AllocError, Global};
+use std::process::ExitCode;
 use std::test::Fail;
 
 const SCRIPT: &str =
     "heap 1 64 0 64 0 2\nnames 0 0 0 0\nlayout fields ref int\nthreads 1\nthread 0\nnew 0 0\nsame 0 0\n";
 
-const REPORT: &str =
-    "thread 0\nok\nyes\ncalls 2\nepochs 0\nreleased 0\nqueued 0\nfinalized 0\nend\n";
-
 const USAGE: &str = "usage: kn_run trace | run | gen N\n";
 
-const BIRTHS: &str =
-    "heap 2 32 0 64 0 2\nnames 0 0 0 0\nlayout fields ref int ref int ref int ref int ref int ref int ref int\nthreads 1\nthread 0\nnew 0 0\nnew 1 0\nnew 2 0\nnew 3 0\nnew 4 0\nsame 4 5\ncopy 6 0\nsame 6 0\nsame 6 1\nclear 6\nsame 6 0\n";
+/// What a report says behind the number of its calls.
+const TAIL: &str = "epochs 0\nreleased 0\nqueued 0\nfinalized 0\nend\n";
 
-/// Which calls of the devices fail, by their numbers.
-#[derive(Clone, Copy)]
-struct Failing<'a> {
-    reads: &'a [u32],
-    writes: &'a [u32],
-}
+const PAIRS: &str =
+    "heap 1 64 0 64 1 16\nnames 1 1 1 1\nlayout fields ref int\nthreads 1\nthread 0\n";
 
-const NONE: Failing<'static> = Failing {
-    reads: &[],
-    writes: &[],
-};
+const NUMBERS: &str =
+    "heap 1 64 0 64 1 16\nnames 1 1 1 1\nlayout fields int int int\nthreads 1\nthread 0\n";
 
-/// The status, the cells and what was written, with devices of pieces of 8 bytes.
+const SINGLES: &str =
+    "heap 1 64 0 64 1 16\nnames 1 1 1 1\nlayout fields int\nthreads 1\nthread 0\n";
+
+const SEVENS: &str =
+    "heap 2 32 0 64 0 2\nnames 0 0 0 0\nlayout fields ref int ref int ref int ref int ref int ref int ref int\nthreads 1\nthread 0\n";
+
+const ARRAYS: &str =
+    "heap 4 64 0 64 0 2\nnames 0 0 0 0\nlayout array ref\nlayout array int\nthreads 1\nthread 0\n";
+
+/// Threads that meet in a global, and the order of their turns.
+const MEETING: &str =
+    "heap 2 64 0 64 0 2\nnames 1 0 0 0\nlayout fields ref int\nthreads 3\nthread 0\nnew 0 0\nput 0 1 7\ngset 0 0\nthread 2\ngget 0 0\nread 0 1\ngget 1 0\nsame 0 1\n";
+
+/// The status and what was written, with devices of pieces of 8 bytes whose calls of these numbers
+/// fail.
 fn traced(
     alloc: Global,
     script: &str,
-    failing: Failing,
-) -> Result<(Status, Option<Cells>, Vec<u8>), AllocError> {
-    let mut source = MemSource::open(alloc, script.as_bytes(), 8, failing.reads)?;
-    let mut sink = MemSink::open(alloc, 1000, 8, failing.writes)?;
-    let end = run_trace(alloc, &mut source, &mut sink);
+    reads: &[u32],
+    writes: &[u32],
+) -> Result<(Status, Vec<u8>), AllocError> {
+    let mut source = MemSource::open(alloc, script.as_bytes(), 8, reads)?;
+    let mut sink = MemSink::open(alloc, 1000, 8, writes)?;
+    let status = run_trace(alloc, &mut source, &mut sink).status;
     let text = sink.held().to_vec(alloc)?;
-    Ok((end.status, end.cells, text))
+    Ok((status, text))
 }
 
-/// The status and what was written for these words.
-fn worded(alloc: Global, words: &[&str]) -> Result<(Status, Vec<u8>), AllocError> {
-    let mut source = MemSource::open(alloc, SCRIPT.as_bytes(), 64, &[])?;
-    let mut sink = MemSink::open(alloc, 1000, 64, &[])?;
-    let end = run_words(alloc, words, &mut source, &mut sink);
-    let text = sink.held().to_vec(alloc)?;
-    Ok((end.status, text))
-}
-
-fn replies_of(alloc: Global, cells: &Cells) -> Result<Vec<Reply>, AllocError> {
-    let mut replies = Vec::new(alloc);
-    for entry in cells.history() {
-        if let Event::Call(_, reply, _) = entry.what {
-            replies.push(reply)?;
-        }
+/// A text, and so many pieces behind it.
+fn repeated(alloc: Global, before: &str, piece: &str, count: usize) -> Result<String, AllocError> {
+    let mut text = String::from_str(alloc, before)?;
+    for _ in 0..count {
+        text.push_str(piece)?;
     }
-    Ok(replies)
+    Ok(text)
 }
 
 #[test]
-fn a_script_is_traced(rt: HostRuntime) -> Result<(), Fail> {
-    let (status, cells, text) = traced(rt.alloc(), SCRIPT, NONE)?;
-    assert_eq!(rt; status, Status::Ok);
-    assert_eq!(rt; text.as_slice(), REPORT.as_bytes());
-    let cells = cells.ok_or("no cells")?;
-    assert_eq!(rt; cells.born(), [Span { start: 1, len: 3 }].as_slice());
+fn scripts_are_traced(rt: HostRuntime) -> Result<(), Fail> {
+    let table = [
+        (SCRIPT, "", "thread 0\nok\nyes\ncalls 2\n"),
+        (PAIRS, "", "thread 0\ncalls 0\n"),
+        (
+            PAIRS,
+            "new 0 0\ncopy 2 0\nget 0 1 0\nsame 0 2",
+            "thread 0\nok\nok\nnil\nyes\ncalls 4\n",
+        ),
+        (
+            NUMBERS,
+            "new 0 0\nput 0 2 9\nread 0 2\nput 0 3 1\nread 0 3\nget 1 0 0",
+            "thread 0\nok\nok\nint 9\nnofield\nnofield\nkind\ncalls 6\n",
+        ),
+        (
+            SEVENS,
+            "new 0 0\nnew 1 0\nnew 2 0\nnew 3 0\nnew 4 0\nsame 4 5\ncopy 6 0\nsame 6 0\nclear 6\nsame 6 0",
+            "thread 0\nok\nok\nok\nok\nfull\nyes\nok\nyes\nok\nno\ncalls 10\n",
+        ),
+        (
+            ARRAYS,
+            "newa 0 0 63\nnewa 1 1 64\nnewa 1 1 2\nset 0 62 1\nset 0 63 1\nset 0 0 15\nget 2 0 62\nsame 2 1\nget 2 0 0\nput 1 1 18446744073709551615\nread 1 1\nread 1 0\nset 1 0 0\nclear 0\nget 3 0 99\n",
+            "thread 0\nok\nfull\nok\nok\nnofield\nok\nref\nyes\nnull\nok\nint 18446744073709551615\nint 0\nkind\nok\nnil\ncalls 15\n",
+        ),
+        (
+            MEETING,
+            "",
+            "thread 0\nok\nok\nok\nthread 1\nthread 2\nnull\nnil\nref\nno\ncalls 7\n",
+        ),
+        (
+            MEETING,
+            "order 0 0 0 0 1 2\norder 2",
+            "thread 0\nok\nok\nok\nthread 1\nthread 2\nref\nint 7\nref\nyes\ncalls 7\n",
+        ),
+    ];
+    for (before, calls, wanted) in table {
+        let script = format!(in rt.alloc(); "{before}{calls}")?;
+        let report = format!(in rt.alloc(); "{wanted}{TAIL}")?;
+        let (status, text) = traced(rt.alloc(), script.as_str(), &[], &[])?;
+        assert!(rt;
+            status == Status::Ok && text.as_slice() == report.as_bytes(),
+            "{calls}"
+        );
+    }
+    Ok(())
+}
+
+#[test]
+fn heaps_are_filled(rt: HostRuntime) -> Result<(), Fail> {
+    let script = repeated(rt.alloc(), SINGLES, "new 0 0\n", 33)?;
+    let report = repeated(rt.alloc(), "thread 0\n", "ok\n", 32)?;
+    let report = format!(in rt.alloc(); "{report}full\ncalls 33\n{TAIL}")?;
+    let (_, text) = traced(rt.alloc(), script.as_str(), &[], &[])?;
+    assert!(rt; text.as_slice() == report.as_bytes());
     Ok(())
 }
 
 #[test]
 fn births_take_the_next_room(rt: HostRuntime) -> Result<(), Fail> {
-    let (_, cells, _) = traced(rt.alloc(), BIRTHS, NONE)?;
-    let cells = cells.ok_or("no cells")?;
+    let script = repeated(rt.alloc(), SEVENS, "new 0 0\n", 5)?;
+    let mut source = MemSource::open(rt.alloc(), script.as_bytes(), 64, &[])?;
+    let mut sink = MemSink::open(rt.alloc(), 1000, 64, &[])?;
+    let end = run_trace(rt.alloc(), &mut source, &mut sink);
+    let cells = end.cells.ok_or("no cells")?;
     let spans = [
         Span { start: 1, len: 15 },
         Span { start: 16, len: 15 },
         Span { start: 33, len: 15 },
         Span { start: 48, len: 15 },
     ];
-    assert_eq!(rt; cells.born(), spans.as_slice());
-    let replies = [
-        Reply::Ok,
-        Reply::Ok,
-        Reply::Ok,
-        Reply::Ok,
-        Reply::Full,
-        Reply::Yes,
-        Reply::Ok,
-        Reply::Yes,
-        Reply::No,
-        Reply::Ok,
-        Reply::No,
+    assert!(rt; cells.born() == spans.as_slice() && cells.history().len() == 5);
+    Ok(())
+}
+
+#[test]
+fn scripts_are_refused(rt: HostRuntime) -> Result<(), Fail> {
+    let head = "heap 1 64 0 64 0 2\nnames 0 0 0 0\nlayout fields ref int\n";
+    let table = [
+        ("", "", "line 1 count\n"),
+        ("", "heap 256 65536 0 32 0 2\n", "line 1 range\n"),
+        ("", "heap 0 32 0 32 0 2\n", "line 1 range\n"),
+        ("", "heap 200 32 57 32 0 2\n", "line 1 range\n"),
+        ("", "names 0 0 0 0\n", "line 1 order\n"),
+        ("", "heap 1 64 0 64 0 2\nnames 0 0 0 65\n", "line 2 range\n"),
+        (head, "threads 17\n", "line 4 range\n"),
+        (head, "threads 1\nthreads 1\n", "line 5 late\n"),
+        (head, "threads 1\nnew 0 0\n", "line 5 order\n"),
+        (
+            head,
+            "threads 1\nturns 18446744073709551616\n",
+            "line 5 number\n",
+        ),
+        (head, "threads 1\nthread 0\nnew 0\n", "line 6 count\n"),
+        (head, "threads 1\nthread 0\nnew\t0 0\n", "line 6 word\n"),
+        (head, "threads 1\nthread 0\nnew 16 0\n", "line 6 range\n"),
+        (head, "threads 1\nthread 0\nnewx 0 0\n", "line 6 word\n"),
+        (head, "threads 1\nthread 0\nnew 0 1\n", "line 6 range\n"),
+        (SCRIPT, "\0", "line 8 word\n"),
+        (SCRIPT, "order\n", "line 8 count\n"),
+        (SCRIPT, "thread 0\n", "line 8 late\n"),
     ];
-    assert_eq!(rt;
-        replies_of(rt.alloc(), &cells)?.as_slice(),
-        replies.as_slice()
-    );
-    Ok(())
-}
-
-#[test]
-fn a_thread_without_a_block_has_no_calls(rt: HostRuntime) -> Result<(), Fail> {
-    let script = "heap 1 64 0 64 1 16\nnames 1 1 1 1\nlayout fields ref int\nthreads 1\n";
-    let (status, _, text) = traced(rt.alloc(), script, NONE)?;
-    assert_eq!(rt; status, Status::Ok);
-    let wanted = "thread 0\ncalls 0\nepochs 0\nreleased 0\nqueued 0\nfinalized 0\nend\n";
-    assert_eq!(rt; text.as_slice(), wanted.as_bytes());
-    Ok(())
-}
-
-#[test]
-fn a_fault_of_a_device_is_answered(rt: HostRuntime) -> Result<(), Fail> {
-    let reads = Failing {
-        reads: &[2],
-        writes: &[],
-    };
-    let (status, _, text) = traced(rt.alloc(), SCRIPT, reads)?;
-    assert_eq!(rt; status, Status::ReadFault);
-    assert_eq!(rt; text.len(), 0);
-    let writes = Failing {
-        reads: &[],
-        writes: &[2],
-    };
-    let (status, cells, text) = traced(rt.alloc(), SCRIPT, writes)?;
-    assert_eq!(rt; status, Status::WriteFault);
-    assert!(rt; cells.is_some());
-    assert_eq!(rt; text.as_slice(), b"thread 0".as_slice());
-    Ok(())
-}
-
-#[test]
-fn what_is_no_script_is_refused(rt: HostRuntime) -> Result<(), Fail> {
-    for script in ["", "heap 1 64 0 64 0 2\n", "\0", "names 0 0 0 0\n"] {
-        let (status, _, text) = traced(rt.alloc(), script, NONE)?;
-        assert_eq!(rt; status, Status::Script);
-        assert_eq!(rt; text.as_slice(), b"bad script\n".as_slice());
+    for (before, behind, line) in table {
+        let script = format!(in rt.alloc(); "{before}{behind}")?;
+        let (status, text) = traced(rt.alloc(), script.as_str(), &[], &[])?;
+        assert!(rt;
+            status.number() == 2 && text.as_slice() == line.as_bytes(),
+            "{line}"
+        );
     }
     Ok(())
 }
 
 #[test]
-fn words_ask_for_a_trace(rt: HostRuntime) -> Result<(), Fail> {
-    let forms: [&[&str]; 3] = [&["trace"], &["--", "trace"], &["trace", "--"]];
-    for words in forms {
-        let (status, text) = worded(rt.alloc(), words)?;
-        assert_eq!(rt; status, Status::Ok);
-        assert_eq!(rt; text.as_slice(), REPORT.as_bytes());
+fn long_texts_are_refused(rt: HostRuntime) -> Result<(), Fail> {
+    let table = [(1_048_576, "line 2 count\n"), (1_048_577, "line 1 long\n")];
+    for (bytes, line) in table {
+        let script = repeated(rt.alloc(), "", "#", bytes)?;
+        let (status, text) = traced(rt.alloc(), script.as_str(), &[], &[])?;
+        assert!(rt;
+            status.number() == 2 && text.as_slice() == line.as_bytes(),
+            "{line}"
+        );
     }
     Ok(())
 }
 
 #[test]
-fn other_words_are_refused(rt: HostRuntime) -> Result<(), Fail> {
-    let refused: [&[&str]; 7] = [
-        &[],
-        &["--"],
-        &["trace", "x"],
-        &["--help"],
-        &["gen", "0"],
-        &["gen", "201"],
-        &["--", "--", "trace"],
+fn turns_are_spent(rt: HostRuntime) -> Result<(), Fail> {
+    let table = [(1, Status::Spent), (2, Status::Ok), (3, Status::Ok)];
+    for (turns, wanted) in table {
+        let script = format!(in rt.alloc();
+            "heap 1 64 0 64 0 2\nnames 0 0 0 0\nlayout fields ref int\nthreads 1\nturns {turns}\nthread 0\nnew 0 0\nsame 0 0\n"
+        )?;
+        let (status, text) = traced(rt.alloc(), script.as_str(), &[], &[])?;
+        let is_told = text.as_slice() == b"turns spent\n".as_slice();
+        assert!(rt; status == wanted && is_told == (wanted == Status::Spent));
+    }
+    Ok(())
+}
+
+#[test]
+fn faults_of_devices_are_answered(rt: HostRuntime) -> Result<(), Fail> {
+    let reads: [u32; 3] = [1, 2, 12];
+    for read in reads {
+        let (status, text) = traced(rt.alloc(), SCRIPT, &[read], &[])?;
+        assert!(rt; status == Status::ReadFault && text.is_empty());
+    }
+    let writes = [
+        (1, ""),
+        (2, "thread 0"),
+        (
+            9,
+            "thread 0\nok\nyes\ncalls 2\nepochs 0\nreleased 0\nqueued 0\nfinalized 0",
+        ),
     ];
-    for words in refused {
-        let (status, text) = worded(rt.alloc(), words)?;
-        assert_eq!(rt; status, Status::Usage);
-        assert_eq!(rt; text.as_slice(), USAGE.as_bytes());
+    for (write, held) in writes {
+        let (status, text) = traced(rt.alloc(), SCRIPT, &[], &[write])?;
+        assert!(rt; status == Status::WriteFault && text.as_slice() == held.as_bytes());
+    }
+    Ok(())
+}
+
+#[test]
+fn words_are_judged(rt: HostRuntime) -> Result<(), Fail> {
+    let forms: [(&[&str], u8); 10] = [
+        (&["trace"], 0),
+        (&["--", "trace"], 0),
+        (&["trace", "--"], 0),
+        (&[], 1),
+        (&["--"], 1),
+        (&["trace", "x"], 1),
+        (&["--help"], 1),
+        (&["gen", "0"], 1),
+        (&["gen", "201"], 1),
+        (&["--", "--", "trace"], 1),
+    ];
+    for (words, number) in forms {
+        let mut source = MemSource::open(rt.alloc(), SCRIPT.as_bytes(), 64, &[])?;
+        let mut sink = MemSink::open(rt.alloc(), 1000, 64, &[])?;
+        let status = run_words(rt.alloc(), words, &mut source, &mut sink).status;
+        let is_usage = sink.held() == USAGE.as_bytes();
+        assert!(rt; status.number() == number && is_usage == (number == 1));
     }
     Ok(())
 }
 
 #[test]
 fn statuses_have_their_numbers(rt: HostRuntime) {
+    let bad = Status::Script {
+        line: 1,
+        why: Why::Count,
+    };
     let numbers = [
         (Status::Ok, 0),
         (Status::Usage, 1),
-        (Status::Script, 2),
+        (bad, 2),
+        (Status::Spent, 3),
         (Status::ReadFault, 4),
         (Status::WriteFault, 5),
         (Status::Memory, 6),
     ];
     for (status, number) in numbers {
-        assert_eq!(rt; status.number(), number);
+        assert!(rt; exit_of(Ok(status)) == ExitCode::from(number));
     }
 }

@@ -1,20 +1,12 @@
 ghost use Rattle.std.specs.Prelude.{◌≡◌, ◌↔◌, [], ◌∷◌, IsTrue, map};
-ghost use Rattle.kn_io.specs.Counts.{NeverFalls};
+ghost use Rattle.kn_io.specs.Devices.{seen};
 ghost use Rattle.kn_run.specs.Words.{AskTrace, without_dashes};
-ghost use Rattle.kn_run.specs.Ends.{IsTraceEnd, IsUsageEnd};
+ghost use Rattle.kn_run.specs.Ends.{IsSilent, IsTraceEnd, IsUsageEnd};
 
-use crate::cells::Cells;
 use crate::status::Status;
 use crate::trace::{TraceEnd, run_trace, write_text};
 use kn_io::{Sink, Source};
 use std::alloc::Global;
-
-/// How the program ended: as the command that its words asked for, or with `Usage` and no cells.
-#[derive(Drop)]
-pub struct WordsEnd {
-    pub status: Status,
-    pub cells: Option<Cells>,
-}
 
 /// Whether there is one word, and it is this one.
 fn is_only(words: &[&str], text: &str) -> bool
@@ -47,28 +39,29 @@ fn ask_trace(words: &[&str]) -> bool
     }
 }
 
-/// Does what the program's words ask for.
+/// Does what the program's words ask for: a trace (`IsTraceEnd` in `specs/Ends.antt`), or, where they
+/// are none of the forms, the usage line (`IsUsageEnd` there), and then the source is not touched.
 pub fn run_words<S: Source, K: Sink>(
     alloc: Global,
     words: &[&str],
     source: &mut S,
     sink: &mut K,
-) -> WordsEnd
+) -> TraceEnd
     ensures trace { AskTrace (map (λ word. word.now) words.now) → IsTraceEnd
-        (record { left = S.left source.old; source_faults = S.faults source.old; held = K.held sink.old; sink_faults = K.faults sink.old })
-        (record { left = S.left source.new; source_faults = S.faults source.new; held = K.held sink.new; sink_faults = K.faults sink.new })
-        result.status result.cells }
+        (seen S.left S.faults K.held K.faults source.old sink.old)
+        (seen S.left S.faults K.held K.faults source.new sink.new) result.status result.cells }
     ensures usage { (AskTrace (map (λ word. word.now) words.now) → ⊥) → IsUsageEnd
-        (record { left = S.left source.old; source_faults = S.faults source.old; held = K.held sink.old; sink_faults = K.faults sink.old })
-        (record { left = S.left source.new; source_faults = S.faults source.new; held = K.held sink.new; sink_faults = K.faults sink.new })
-        result.status result.cells }
+        (seen S.left S.faults K.held K.faults source.old sink.old)
+        (seen S.left S.faults K.held K.faults source.new sink.new) result.status result.cells }
+    ensures unread { (AskTrace (map (λ word. word.now) words.now) → ⊥) → source.new ≡ source.old }
+    ensures flushed { result.status ≡ Status.Ok → K.is_flushed sink.new }
+    ensures untouched { IsSilent result.status → sink.new ≡ sink.old }
 {
     if ask_trace(words) {
-        let TraceEnd { status, cells } = run_trace(alloc, source, sink);
-        return WordsEnd { status, cells };
+        return run_trace(alloc, source, sink);
     }
     write_text(sink, b"usage: kn_run trace | run | gen N\n");
-    WordsEnd {
+    TraceEnd {
         status: Status::Usage,
         cells: None,
     }

@@ -1,8 +1,10 @@
 pub mod PieceLemmas
 pub mod NumberLemmas
-pub mod HeaderLemmas
-pub mod EachLemmas
-pub mod CallLemmas
-pub mod LayoutLemmas
-pub mod ScriptLemmas
-pub mod UniqueLemmas
+pub mod OrderLemmas
+pub mod ReasonLemmas
+pub mod GrammarLemmas
+pub mod ValueLemmas
+pub mod SizeLemmas
+pub mod FitLemmas
+pub mod GoodLemmas
+pub mod BuiltLemmas

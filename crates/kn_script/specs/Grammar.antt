@@ -1,156 +1,77 @@
--- Which bytes are the text of which script.
-use Rattle.std.specs.Prelude.{◌≡◌, ℕ, ◌≤◌, Some, List, [], ◌∷◌, ◌++◌, length, codes}
-use Rattle.kn_base.specs.declared.heap.Sizes.{Sizes}
-use Rattle.kn_base.specs.Sizes.{FramesFit, NamesFit}
-use Rattle.kn_graph.specs.declared.layouts.FieldKind.{FieldKind}
-use Rattle.kn_graph.specs.declared.layouts.FieldKind.TheVariants.{Ref, Int}
-use Rattle.kn_graph.specs.declared.layouts.Layout.{Layout}
-use Rattle.kn_graph.specs.declared.layouts.Layout.TheVariants.{Fields, Array}
-use Rattle.kn_graph.specs.declared.calls.Call.{Call}
-use Rattle.kn_graph.specs.declared.calls.Call.TheVariants.{New, NewArray, Copy, Clear, Same, Get, Set, Put, Read, GlobalSet, GlobalGet, Pin, Unpin, StableGet, MakeWeak, WeakGet, MakeBack, Retain, Release, BackGet, Tie, Collect}
-use Rattle.kn_graph.specs.Graph.{Ground}
-use Rattle.kn_graph.specs.Ranges.{IsInRange}
-use Rattle.kn_script.specs.Lines.{lines_of_words}
-use Rattle.kn_script.specs.Numbers.{numbers_of}
-use Rattle.kn_script.specs.Scripts.{Scripted, Counts, ground_of}
+-- Which bytes are the text of which script, and where other bytes are bad.
+use Rattle.std.specs.Prelude.{◌≡◌, ◌⊎◌, ℕ, ◌<◌, ◌≤◌, false, Some, Result, Ok, Err, List, [], ◌∷◌, length, take}
+use Rattle.kn_base.specs.declared.limits.TheConstants.{LONGEST_TEXT}
+use Rattle.kn_base.specs.Texts.{line_behind}
+use Rattle.kn_script.specs.declared.faults.Fault.{Fault}
+use Rattle.kn_script.specs.declared.faults.Fault.TheVariants.{Bad, Memory}
+use Rattle.kn_script.specs.declared.faults.Why.{Why}
+use Rattle.kn_script.specs.declared.faults.Why.TheVariants.{Count, Long}
+use Rattle.kn_script.specs.declared.built.FirstWord.{FirstWord}
+use Rattle.kn_script.specs.declared.built.Built.{Built}
+use Rattle.kn_script.specs.declared.built.TheConstants.{TODAY}
+use Rattle.kn_script.specs.Built.{first_word_of}
+use Rattle.kn_script.specs.Lines.{Numbered, unread, has_odd_byte}
+use Rattle.kn_script.specs.Forms.{form_of}
+use Rattle.kn_script.specs.Scripts.{Scripted, Progress}
+use Rattle.kn_script.specs.Progress.{start, behind, script_of}
+use Rattle.kn_script.specs.Reasons.{word_reasons, is_too_much, is_other_count, is_early, is_late, IsFirst}
 
--- the words of a line
-abbrev pub Words : Type 0
-Words = List (List ℕ)
+-- a good line, and the progress behind it
+pub record Takes (p : Progress) (line : Numbered) (q : Progress) : Type 0 where
+  pub word : FirstWord
+  pub plain : has_odd_byte line.text ≡ false
+  pub known : first_word_of p.built line.name ≡ Some word
+  pub words : word_reasons p (form_of word line.arguments) 0 line.arguments ≡ []
+  pub room : is_too_much p word line.arguments ≡ false
+  pub count : is_other_count (form_of word line.arguments) line.arguments ≡ false
+  pub come : is_early p (form_of word line.arguments) ≡ false
+  pub in_time : is_late p (form_of word line.arguments) ≡ false
+  pub after : q ≡ behind p word line.arguments
 
--- the line is this word and then these numbers
-pub record IsLine (name : List ℕ) (numbers : List ℕ) (words : Words) : Type 0 where
-  pub arguments : Words
-  pub named : words ≡ name ∷ arguments
-  pub numbered : numbers_of arguments ≡ Some numbers
+-- the required lines have come
+abbrev pub IsWhole : Progress → Type 0
+IsWhole p = 3 ≤ p.stage
 
--- each line or word says the item at its place
-abbrev pub SayEach : {A B : Type 0} → (A → B → Type 0) → List A → List B → Type 0
-SayEach Says [] [] = Unit {0}
-SayEach Says (x ∷ xs) (line ∷ lines) = Says x line × SayEach Says xs lines
-SayEach Says [] (line ∷ lines) = ⊥
-SayEach Says (x ∷ xs) [] = ⊥
+-- the lines are good, one after another, and no required line is missing
+abbrev pub Reads : Progress → List Numbered → Scripted → Type 0
+Reads p [] s = IsWhole p × (script_of p ≡ s)
+Reads p (line ∷ lines) s = (q : Progress) × Takes p line q × Reads q lines s
 
--- `heap S P L Q X Y`: numbers of frames and their words, for small, large and extra frames
-pub record SaysHeap (z : Sizes) (words : Words) : Type 0 where
-  pub line : IsLine (codes "heap") (z.small ∷ z.small_words ∷ z.large ∷ z.large_words ∷ z.extra ∷ z.extra_words ∷ []) words
-  pub limits : FramesFit z
+-- the lines are good up to the first bad one, or a required line is missing at their end
+abbrev pub IsBadAmong : Progress → List Numbered → ℕ → ℕ → Why → Type 0
+IsBadAmong p [] end n why = (p.stage < 3) × (n ≡ end) × (why ≡ Count)
+IsBadAmong p (line ∷ lines) end n why =
+    ((n ≡ line.number) × IsFirst p line why) ⊎ ((q : Progress) × Takes p line q × IsBadAmong q lines end n why)
 
--- `names G H W B`: numbers of globals, and of stable, weak and back names
-pub record SaysNames (z : Sizes) (words : Words) : Type 0 where
-  pub line : IsLine (codes "names") (z.globals ∷ z.stable ∷ z.weak ∷ z.back ∷ []) words
-  pub limits : NamesFit z
+-- what holds of the line and the reason that are told
+abbrev pub IfBad : {X : Type 0} → Result X Fault → (ℕ → Why → Type 0) → Type 0
+IfBad (Ok x) P = Unit {0}
+IfBad (Err Memory) P = Unit {0}
+IfBad (Err (Bad line why)) P = P line why
 
--- `threads 1`: there is one thread
-pub record SaysThreads (z : Sizes) (words : Words) : Type 0 where
-  pub line : IsLine (codes "threads") (z.threads ∷ []) words
-  pub one : z.threads ≡ 1
+-- the bytes are the text of the script, in the words that are built
+pub record IsText (built : Built) (s : Scripted) (bytes : List ℕ) : Type 0 where
+  pub short : length bytes ≤ LONGEST_TEXT
+  pub reads : Reads (start built) (unread 1 bytes).left s
 
--- `ref` or `int`
-abbrev pub kind_word : FieldKind → List ℕ
-kind_word Ref = codes "ref"
-kind_word Int = codes "int"
+-- the text is too long, which is told at the line that follows its greatest length
+pub record IsLong (bytes : List ℕ) (n : ℕ) (why : Why) : Type 0 where
+  pub long : LONGEST_TEXT < length bytes
+  pub line : n ≡ line_behind (take LONGEST_TEXT bytes)
+  pub reason : why ≡ Long
 
--- the word spells the kind
-abbrev pub SaysKind : FieldKind → List ℕ → Type 0
-SaysKind kind word = word ≡ kind_word kind
+-- the text is short enough, and this is its first bad line, with its first reason
+pub record IsBadLine (built : Built) (bytes : List ℕ) (n : ℕ) (why : Why) : Type 0 where
+  pub short : length bytes ≤ LONGEST_TEXT
+  pub bad : IsBadAmong (start built) (unread 1 bytes).left (unread 1 bytes).end n why
 
--- `layout fields K ..`: at most 64 kinds
-pub record SaysFields (kinds : List FieldKind) (words : Words) : Type 0 where
-  pub arguments : Words
-  pub named : words ≡ codes "layout" ∷ codes "fields" ∷ arguments
-  pub spelled : SayEach SaysKind kinds arguments
-  pub few : length kinds ≤ 64
+-- the bytes are no text, and this line and reason are told
+abbrev pub IsBad : Built → List ℕ → ℕ → Why → Type 0
+IsBad built bytes n why = IsLong bytes n why ⊎ IsBadLine built bytes n why
 
--- the line says the layout
-abbrev pub SaysLayout : Layout → Words → Type 0
-SaysLayout (Fields kinds) words = SaysFields kinds words
-SaysLayout (Array kind) words = ⊥
+-- the bytes are the text of the script, and no text, in the words that are built today
+abbrev pub IsTextToday : Scripted → List ℕ → Type 0
+IsTextToday s bytes = IsText TODAY s bytes
 
--- the first word of a call's line
-abbrev pub call_word : Call → List ℕ
-call_word (New r layout) = codes "new"
-call_word (NewArray r layout n) = codes "newa"
-call_word (Copy r s) = codes "copy"
-call_word (Clear r) = codes "clear"
-call_word (Same r s) = codes "same"
-call_word (Get r s f) = codes "get"
-call_word (Set s f r) = codes "set"
-call_word (Put s f n) = codes "put"
-call_word (Read s f) = codes "read"
-call_word (GlobalSet g r) = codes "gset"
-call_word (GlobalGet r g) = codes "gget"
-call_word (Pin h r) = codes "pin"
-call_word (Unpin h) = codes "unpin"
-call_word (StableGet r h) = codes "hget"
-call_word (MakeWeak w r) = codes "weak"
-call_word (WeakGet r w) = codes "wget"
-call_word (MakeBack b r) = codes "back"
-call_word (Retain b) = codes "retain"
-call_word (Release b) = codes "release"
-call_word (BackGet r b) = codes "bget"
-call_word (Tie r c n) = codes "tie"
-call_word Collect = codes "gc"
-
--- the arguments of a call, in the order of the script
-abbrev pub call_numbers : Call → List ℕ
-call_numbers (New r layout) = r ∷ layout ∷ []
-call_numbers (NewArray r layout n) = r ∷ layout ∷ n ∷ []
-call_numbers (Copy r s) = r ∷ s ∷ []
-call_numbers (Clear r) = r ∷ []
-call_numbers (Same r s) = r ∷ s ∷ []
-call_numbers (Get r s f) = r ∷ s ∷ f ∷ []
-call_numbers (Set s f r) = s ∷ f ∷ r ∷ []
-call_numbers (Put s f n) = s ∷ f ∷ n ∷ []
-call_numbers (Read s f) = s ∷ f ∷ []
-call_numbers (GlobalSet g r) = g ∷ r ∷ []
-call_numbers (GlobalGet r g) = r ∷ g ∷ []
-call_numbers (Pin h r) = h ∷ r ∷ []
-call_numbers (Unpin h) = h ∷ []
-call_numbers (StableGet r h) = r ∷ h ∷ []
-call_numbers (MakeWeak w r) = w ∷ r ∷ []
-call_numbers (WeakGet r w) = r ∷ w ∷ []
-call_numbers (MakeBack b r) = b ∷ r ∷ []
-call_numbers (Retain b) = b ∷ []
-call_numbers (Release b) = b ∷ []
-call_numbers (BackGet r b) = r ∷ b ∷ []
-call_numbers (Tie r c n) = r ∷ c ∷ n ∷ []
-call_numbers Collect = []
-
--- the line says the call, whose arguments are in their ranges; a call that is not built is in none
-pub record SaysCall (z : Ground) (call : Call) (words : Words) : Type 0 where
-  pub line : IsLine (call_word call) (call_numbers call) words
-  pub in_range : IsInRange z call
-
--- `thread 0` and a line for each call; a thread without a block has no calls
-abbrev pub SayBlock : Ground → List Call → List Words → Type 0
-SayBlock z calls [] = calls ≡ []
-SayBlock z calls (line ∷ lines) = IsLine (codes "thread") (0 ∷ []) line × SayEach (SaysCall z) calls lines
-
--- the lines that are not passed over are a heap line, a names line, the layouts, a threads line and the block of the thread
-pub record SayScript (s : Scripted) (lines : List Words) : Type 0 where
-  pub heap_line : Words
-  pub names_line : Words
-  pub layout_lines : List Words
-  pub threads_line : Words
-  pub block : List Words
-  pub calls : List Call
-  pub are : lines ≡ heap_line ∷ names_line ∷ (layout_lines ++ threads_line ∷ block)
-  pub heap : SaysHeap s.sizes heap_line
-  pub names : SaysNames s.sizes names_line
-  pub layouts : SayEach SaysLayout s.layouts layout_lines
-  pub few_layouts : length s.layouts ≤ 64
-  pub threads : SaysThreads s.sizes threads_line
-  pub one_thread : s.threads ≡ calls ∷ []
-  pub said : SayBlock (ground_of s) calls block
-  pub few_calls : length calls ≤ 16384
-
--- the greatest length of a text, in bytes
-abbrev pub longest_text : ℕ
-longest_text = 1048576
-
--- the bytes are the text of the script, whose sizes count its calls and births
-pub record IsText (s : Scripted) (bytes : List ℕ) : Type 0 where
-  pub short : length bytes ≤ longest_text
-  pub lines : SayScript s (lines_of_words bytes)
-  pub counts : Counts s
+abbrev pub IsBadToday : List ℕ → ℕ → Why → Type 0
+IsBadToday bytes n why = IsBad TODAY bytes n why

@@ -1,5 +1,12 @@
-pub mod Lines
 pub mod Numbers
+pub mod Lines
+pub mod Built
+pub mod Orders
 pub mod Scripts
+pub mod Forms
+pub mod Progress
+pub mod Reasons
 pub mod Grammar
-pub mod Reading
+pub mod Good
+pub mod Laws
+pub mod Readings

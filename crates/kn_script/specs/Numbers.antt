@@ -1,5 +1,6 @@
 -- Numbers as they are spelled in a script.
-use Rattle.std.specs.Prelude.{ℕ, ◌+◌, ◌-◌, ◌*◌, ◌^◌, Bool, ◌&&◌, nat_le, nat_lt, Option, Some, None, List, [], ◌∷◌, length, if◌then◌else◌}
+use Rattle.std.specs.Prelude.{ℕ, ◌+◌, ◌-◌, ◌*◌, ◌^◌, Bool, ◌&&◌, nat_le, nat_lt, Option, Some, None, List, [], ◌∷◌, length, unwrap_or, slice_index_or}
+use Rattle.std.specs.Prelude.{if◌then◌else◌}
 use Rattle.std.specs.List.{list_all}
 
 abbrev pub is_digit : ℕ → Bool
@@ -18,12 +19,10 @@ are_digits word = nat_le 1 (length word) && (nat_le (length word) 20 && list_all
 abbrev pub number_of : List ℕ → Option ℕ
 number_of word = if are_digits word && nat_lt (value_from 0 word) (2 ^ 64) then Some (value_from 0 word) else None
 
-abbrev pub with_front : Option ℕ → Option (List ℕ) → Option (List ℕ)
-with_front None rest = None
-with_front (Some n) None = None
-with_front (Some n) (Some ns) = Some (n ∷ ns)
+-- the number that a word spells, and 0 where it spells none
+abbrev pub value_of : List ℕ → ℕ
+value_of word = unwrap_or (number_of word) 0
 
--- the numbers that words spell, where each spells one
-abbrev pub numbers_of : List (List ℕ) → Option (List ℕ)
-numbers_of [] = Some []
-numbers_of (word ∷ words) = with_front (number_of word) (numbers_of words)
+-- the number that the word at a place spells, and 0 where there is none
+abbrev pub value_at : List (List ℕ) → ℕ → ℕ
+value_at words place = value_of (slice_index_or words place [])

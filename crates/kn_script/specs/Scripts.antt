@@ -1,20 +1,22 @@
--- Scripts, and which are good.
-use Rattle.std.specs.Prelude.{◌≡◌, ℕ, ◌≤◌, Bool, true, false, Some, List, length, slice_get, slice_index, count_by}
-use Rattle.std.specs.List.{AllByRecursion}
+-- Scripts, and what is read of one so far.
+use Rattle.std.specs.Prelude.{◌≡◌, ℕ, zero, suc, Bool, true, false, List, [], ◌∷◌, length, count_by}
 use Rattle.kn_base.specs.declared.heap.Sizes.{Sizes}
-use Rattle.kn_base.specs.Sizes.{IsGood}
-use Rattle.kn_graph.specs.declared.layouts.Layout.{Layout}
+use Rattle.kn_layout.specs.declared.layouts.Layout.{Layout}
 use Rattle.kn_graph.specs.declared.calls.Call.{Call}
 use Rattle.kn_graph.specs.declared.calls.Call.TheVariants.{New, NewArray}
-use Rattle.kn_graph.specs.Layouts.{IsLayout}
-use Rattle.kn_graph.specs.Graph.{Ground}
-use Rattle.kn_graph.specs.Ranges.{IsInRange}
+use Rattle.kn_graph.specs.Ground.{Ground}
+use Rattle.kn_script.specs.declared.built.Built.{Built}
+use Rattle.kn_script.specs.declared.header_lines.FrameSizes.{FrameSizes}
+use Rattle.kn_script.specs.declared.header_lines.NameCounts.{NameCounts}
+use Rattle.kn_script.specs.declared.orders.OrderWord.{OrderWord}
 
 -- a script without where it lies in memory
 pub record Scripted : Type 0 where
   pub sizes : Sizes
   pub layouts : List Layout
   pub threads : List (List Call)
+  pub turns : ℕ
+  pub order : List OrderWord
 
 -- what the graph of a script lives on
 abbrev pub ground_of : Scripted → Ground
@@ -26,21 +28,28 @@ is_birth (New r layout) = true
 is_birth (NewArray r layout n) = true
 is_birth _ = false
 
--- the sizes have a number of calls and one of births for each of sixteen threads
-abbrev pub HasSixteen : Sizes → Type 0
-HasSixteen z = (length z.calls ≡ 16) × (length z.births ≡ 16)
+-- a number for each of so many threads: what is counted of its calls, and 0 past the last thread
+abbrev pub counts_of : (List Call → ℕ) → ℕ → List (List Call) → List ℕ
+counts_of count zero threads = []
+counts_of count (suc n) [] = 0 ∷ counts_of count n []
+counts_of count (suc n) (calls ∷ threads) = count calls ∷ counts_of count n threads
 
--- the sizes count the calls and the births of each thread, and have none past the last thread
+-- the sizes count the calls and the births of each thread
 pub record Counts (s : Scripted) : Type 0 where
-  pub each : (thread : ℕ) (calls : List Call) → slice_get s.threads thread ≡ Some calls →
-      (slice_index s.sizes.calls thread ≡ length calls) × (slice_index s.sizes.births thread ≡ count_by is_birth calls)
-  pub past : (thread : ℕ) → length s.threads ≤ thread → (slice_index s.sizes.calls thread ≡ 0) × (slice_index s.sizes.births thread ≡ 0)
+  pub calls : s.sizes.calls ≡ counts_of length 16 s.threads
+  pub births : s.sizes.births ≡ counts_of (count_by is_birth) 16 s.threads
 
--- the script is within the limits, and every layout and call is in its ranges
-pub record IsGoodScript (s : Scripted) : Type 0 where
-  pub sizes : IsGood s.sizes
-  pub each_thread : length s.threads ≡ s.sizes.threads
-  pub counts : Counts s
-  pub few_layouts : length s.layouts ≤ 64
-  pub layouts : AllByRecursion IsLayout s.layouts
-  pub calls : AllByRecursion (AllByRecursion (IsInRange (ground_of s))) s.threads
+-- what the lines so far have given: the words that are built, the parts of a script, which lines have come (1 the
+-- heap, 2 the names, 3 the threads, 4 the turns, 5 a thread, 6 an order), the least thread that may come, and the
+-- number of calls
+pub record Progress : Type 0 where
+  pub built : Built
+  pub frames : FrameSizes
+  pub names : NameCounts
+  pub layouts : List Layout
+  pub turns : ℕ
+  pub threads : List (List Call)
+  pub order : List OrderWord
+  pub stage : ℕ
+  pub next : ℕ
+  pub calls : ℕ

@@ -1,25 +1,36 @@
-//! The grammar of scripts: from bytes to a script.
+//! The grammar of scripts: from bytes to a script, or to the first bad line and its first reason.
 //!
-//! This crate owns the relation between bytes and scripts (`specs/Grammar.antt`) and the parser
-//! that is proved against it in both directions. A script, once parsed, never changes.
+//! This crate owns the relation between bytes and scripts (`specs/Grammar.antt`), the table of
+//! reasons (`specs/Reasons.antt`) and the list of the words that are built (`Built`). A script, once
+//! parsed, never changes.
 //!
-//! The parser goes over the lines once, by cursors that hold what is left of them (`lines.rt`).
-//! Between any two steps the lines that were passed say exactly the parts that were read. Each kind
-//! of line has a reader of its own (`header.rt`, `layout_lines.rt`, `call_lines.rt`). The call words
-//! that are built are the variants of `Verb`.
+//! The parser goes over the lines once, and only it changes its progress. Between any two lines the
+//! progress is what the lines that were passed have given, none of which meets a reason, and it is
+//! within the limits (`IsSound` in `specs/Good.antt`).
 #![tactic(auto)]
 
+mod built;
 mod call_lines;
 mod faults;
-mod header;
+mod forms;
+mod header_lines;
+mod laws;
 mod layout_lines;
 mod lines;
 mod numbers;
+mod orders;
 mod parser;
+mod progress;
+mod reasons;
 mod scripts;
+mod size_counts;
+mod words;
 
-pub use faults::Fault;
-pub use parser::parse;
+pub use built::{Built, HeaderWord, OrderPart, TODAY, WHOLE};
+pub use faults::{Fault, Why};
+pub use laws::state_laws;
+pub use orders::{Actor, OrderWord, Until};
+pub use parser::{parse, read_script};
 pub use scripts::{Calls, Script};
 
 #[cfg(test)]

@@ -1,93 +1,91 @@
-ghost use Rattle.std.specs.Prelude.{◌≡◌, ◌≤◌, length, count_by, IfOk, IsErrOf};
-ghost use Rattle.kn_script.specs.Scripts.{Scripted, Counts, HasSixteen, IsGoodScript, is_birth};
-ghost use Rattle.kn_script.specs.Grammar.{SayScript, IsText};
-ghost use Rattle.kn_script.specs.Reading.{sizes_of};
+ghost use Rattle.std.specs.Prelude.{◌≡◌, ◌≤◌, take, length, IfOk, IsErrOf};
+ghost use Rattle.kn_script.specs.Built.{AreBuilt};
+ghost use Rattle.kn_script.specs.Scripts.{Scripted};
+ghost use Rattle.kn_script.specs.Grammar.{Takes, IsText, IsTextToday, IsBad, IsBadToday, IfBad};
+ghost use Rattle.kn_script.specs.Good.{IsSound, IsGoodScript};
+ghost use Rattle.kn_script.specs.Reasons.{IsFirst};
 
-use crate::call_lines::read_block;
-use crate::faults::Fault;
-use crate::header::{Frames, Names, read_header};
-use crate::layout_lines::read_layouts;
-use crate::lines::Lines;
-use crate::scripts::{Calls, Script};
-use kn_base::Sizes;
-use kn_graph::Call;
+use crate::built::{Built, TODAY};
+use crate::faults::{Fault, Why};
+use crate::lines::{Line, Lines};
+use crate::progress::Progress;
+use crate::reasons::judge;
+use crate::scripts::Script;
+use kn_base::{LONGEST_TEXT, line_after};
 use std::alloc::Global;
 
-const MOST_BYTES: usize = 1_048_576;
-
-/// The script whose text the bytes are (`IsText` in `specs/Grammar.antt`).
+/// The script whose text the bytes are, in the words that are built today (`IsTextToday` in
+/// `specs/Grammar.antt`).
 ///
-/// `Fault::Bad` comes exactly where the bytes are the text of no script, unless memory runs out.
+/// `Fault::Bad` comes exactly where the bytes are the text of no script, unless memory runs out. It
+/// has the first bad line, counted from 1, and the first reason of the table that this line meets;
+/// `Long` stands before all else.
 pub fn parse(alloc: Global, bytes: &[u8]) -> Result<Script, Fault>
-    ensures text { IfOk result (λ script. IsText script bytes.now) }
+    ensures text { IfOk result (λ script. IsTextToday script bytes.now) }
     ensures good { IfOk result IsGoodScript }
-    ensures only { IfOk result (λ script. (other : Scripted) → HasSixteen other.sizes
-        → IsText other bytes.now → other ≡ script) }
-    ensures bad { IsErrOf result Fault.Bad → (script : Scripted) → IsText script bytes.now → ⊥ }
+    ensures only { IfOk result (λ script. (other : Scripted) → IsTextToday other bytes.now → other ≡ script) }
+    ensures bad { IfBad result (λ line why. IsBadToday bytes.now line why) }
+    ensures none { IfBad result (λ line why. (script : Scripted) → IsTextToday script bytes.now → ⊥) }
+    ensures memory { IsErrOf result Fault.Memory → length bytes.now ≤ LONGEST_TEXT }
+    ensures words { IfOk result (λ script. AreBuilt TODAY script.threads) }
 {
-    if bytes.len() > MOST_BYTES {
-        return Err(Fault::Bad);
+    read_script(alloc, &TODAY, bytes)
+}
+
+/// The script whose text the bytes are, in the words that are built (`IsText` in
+/// `specs/Grammar.antt`), or the first bad line and the first reason that it meets (`IsBad` there).
+pub fn read_script(alloc: Global, built: &Built, bytes: &[u8]) -> Result<Script, Fault>
+    ensures text { IfOk result (λ script. IsText built.now script bytes.now) }
+    ensures good { IfOk result IsGoodScript }
+    ensures only { IfOk result (λ script. (other : Scripted) → IsText built.now other bytes.now → other ≡ script) }
+    ensures bad { IfBad result (λ line why. IsBad built.now bytes.now line why) }
+    ensures none { IfBad result (λ line why. (script : Scripted) → IsText built.now script bytes.now → ⊥) }
+    ensures memory { IsErrOf result Fault.Memory → length bytes.now ≤ LONGEST_TEXT }
+    ensures words { IfOk result (λ script. AreBuilt built.now script.threads) }
+{
+    if (LONGEST_TEXT as usize) < bytes.len() {
+        return Err(Fault::Bad {
+            line: line_after(head_of(bytes)),
+            why: Why::Long,
+        });
     }
-    read_script(alloc, Lines::new(bytes))
+    let mut lines = Lines::new(bytes);
+    let mut progress = Progress::new(alloc, built);
+    while let Some(line) = lines.next_line() {
+        take_line(alloc, &mut progress, &line)?;
+    }
+    if !progress.is_closed() {
+        return Err(Fault::Bad {
+            line: lines.number(),
+            why: Why::Count,
+        });
+    }
+    Ok(progress.into_script())
 }
 
-/// The script that lines say.
-fn read_script(alloc: Global, lines: Lines) -> Result<Script, Fault>
-    ensures said { IfOk result (λ script. SayScript script lines.entry) }
-    ensures counts { IfOk result (λ script. Counts script) }
-    ensures sixteen { IfOk result (λ script. HasSixteen script.sizes) }
-    ensures none { IsErrOf result Fault.Bad → (script : Scripted) → SayScript script lines.entry → ⊥ }
+/// Takes a good line into the progress.
+fn take_line(alloc: Global, progress: &mut Progress, line: &Line) -> Result<(), Fault>
+    requires { IsSound progress.old }
+    ensures taken { IfOk result (λ _. Takes progress.old line.now progress.new) }
+    ensures bad { IfBad result (λ n why. (n ≡ line.now.number) × IsFirst progress.old line.now why) }
 {
-    let mut lines = lines;
-    let Some((frames, names)) = read_header(&mut lines) else {
-        return Err(Fault::Bad);
-    };
-    let (layouts, thread_count) = read_layouts(alloc, &mut lines)?;
-    let calls = read_block(alloc, layouts.as_slice(), lines)?;
-    let sizes = make_sizes(frames, names, thread_count, calls.as_slice());
-    let mut threads = Vec::new(alloc);
-    threads.push(Calls::from_vec(calls))?;
-    Ok(Script {
-        sizes,
-        layouts,
-        threads,
-    })
-}
-
-/// The sizes with these parts, which count the calls of the only thread.
-fn make_sizes(frames: Frames, names: Names, threads: u32, calls: &[Call]) -> Sizes
-    requires { length calls.now ≤ 16384 }
-    ensures { result ≡ sizes_of frames names threads calls.now }
-{
-    let mut call_counts = [0; 16];
-    call_counts[0] = calls.len() as u32;
-    let mut birth_counts = [0; 16];
-    birth_counts[0] = count_births(calls);
-    Sizes {
-        small: frames.small,
-        small_words: frames.small_words,
-        large: frames.large,
-        large_words: frames.large_words,
-        extra: frames.extra,
-        extra_words: frames.extra_words,
-        globals: names.globals,
-        stable: names.stable,
-        weak: names.weak,
-        back: names.back,
-        threads,
-        calls: call_counts,
-        births: birth_counts,
+    match judge(progress, line) {
+        Ok(read) => {
+            progress.add(alloc, read, line.arguments())?;
+            Ok(())
+        }
+        Err(why) => Err(Fault::Bad {
+            line: line.number(),
+            why,
+        }),
     }
 }
 
-/// The number of calls that ask for a new object.
-fn count_births(calls: &[Call]) -> u32
-    requires { length calls.now ≤ 16384 }
-    ensures { result ≡ count_by is_birth calls.now }
+/// As many bytes as a text may have.
+fn head_of(bytes: &[u8]) -> &[u8]
+    requires { LONGEST_TEXT ≤ length bytes.now }
+    ensures head { result.now ≡ take LONGEST_TEXT bytes.now }
+    ensures count { length result.now ≤ LONGEST_TEXT }
 {
-    let births = calls
-        .iter()
-        .filter(|call| matches!(call, Call::New(..) | Call::NewArray(..)))
-        .count();
-    births as u32
+    &bytes[..LONGEST_TEXT as usize]
 }

@@ -1,9 +1,11 @@
+use crate::orders::OrderWord;
 use kn_base::Sizes;
-use kn_graph::{Call, Layout};
+use kn_graph::Call;
+use kn_layout::Layout;
 use std::marker::Model;
 
 /// The calls of one thread, in order. Contracts see the list of them.
-#[derive(Debug, Drop)]
+#[derive(Drop)]
 pub struct Calls {
     calls: Vec<Call>,
 }
@@ -17,9 +19,26 @@ impl Model for Calls {
     ghost view = { λ calls. calls.calls.items };
 }
 
-ghost use Rattle.std.specs.Prelude.{◌≡◌};
+ghost use Rattle.std.specs.Prelude.{◌≡◌, ◌++◌, [], ◌∷◌, IfOk};
+
+use std::alloc::{AllocError, Global};
 
 impl Calls {
+    pub fn new(alloc: Global) -> Calls
+        ensures { result ≡ [] }
+    {
+        Calls {
+            calls: Vec::new(alloc),
+        }
+    }
+
+    pub fn push(&mut self, call: Call) -> Result<(), AllocError>
+        ensures { IfOk result (λ _. self.new ≡ self.old ++ call ∷ []) }
+    {
+        self.calls.push(call)?;
+        Ok(())
+    }
+
     pub fn from_vec(calls: Vec<Call>) -> Calls
         ensures { result ≡ calls.items }
     {
@@ -40,15 +59,18 @@ impl Calls {
     }
 }
 
-/// A script: the sizes of its heap, its layouts, and the calls of each thread.
+/// A script: the sizes of its heap, its layouts, the calls of each thread, the greatest number of
+/// turns, and the order in which turns are given.
 ///
 /// Contracts see a record of lists, `Scripted` in `specs/Scripts.antt`. Every call that takes a
 /// script asks for a good one (`IsGoodScript`), and `parse` gives only good ones.
-#[derive(Debug, Drop)]
+#[derive(Drop)]
 pub struct Script {
     pub sizes: Sizes,
     pub layouts: Vec<Layout>,
     pub threads: Vec<Calls>,
+    pub turns: u64,
+    pub order: Vec<OrderWord>,
 }
 
 impl Model for Script {
@@ -60,5 +82,7 @@ impl Model for Script {
       sizes = script.sizes;
       layouts = script.layouts.items;
       threads = script.threads.items;
+      turns = script.turns;
+      order = script.order.items;
     } };
 }

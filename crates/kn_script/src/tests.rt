@@ -1,238 +1,402 @@
-use crate::{Fault, Script, parse};
-use kn_base::Sizes;
-use kn_graph::{Call, FieldKind, Layout};
+use crate::{Actor, Built, Fault, OrderWord, TODAY, Until, WHOLE, parse, read_script};
+use kn_graph::Call;
 use std::alloc::{AllocError, Global};
 use std::test::Fail;
 
-const EXAMPLE: &str =
-    "heap 1 64 0 64 0 2\nnames 0 0 0 0\nlayout fields ref int\nthreads 1\nthread 0\nnew 0 0\nsame 0 0\n";
+const HEAP: &str = "heap 2 64 1 64 0 2\n";
 
-fn read(alloc: Global, text: &str) -> Result<Script, Fault> {
-    parse(alloc, text.as_bytes())
+const NAMES: &str = "heap 2 64 1 64 0 2\nnames 1 1 1 1\n";
+
+const LAYOUTS: &str =
+    "heap 2 64 1 64 0 2\nnames 1 1 1 1\nlayout fields ref int\nlayout array int\n";
+
+const THREADS: &str =
+    "heap 2 64 1 64 0 2\nnames 1 1 1 1\nlayout fields ref int\nlayout array int\nthreads 2\n";
+
+const TURNS: &str =
+    "heap 2 64 1 64 0 2\nnames 1 1 1 1\nlayout fields ref int\nlayout array int\nthreads 2\nturns 9\n";
+
+const BLOCK: &str =
+    "heap 2 64 1 64 0 2\nnames 1 1 1 1\nlayout fields ref int\nlayout array int\nthreads 2\nthread 0\n";
+
+const ORDER: &str =
+    "heap 2 64 1 64 0 2\nnames 1 1 1 1\nlayout fields ref int\nlayout array int\nthreads 2\nthread 0\norder 0\n";
+
+/// Lines that are bad as the first one, and why.
+const FIRST: &str = "Word: heap 1 32 0 32 0 2\t
+Word: heap 1 32 0 32 0 2 \x7f
+Word: heaps 1 32 0 32 0 2
+Word:  # no comment
+Word: trigger 1
+Number: heap x 32 0 32 0 2
+Number: heap 0 32 0 32 0 -1
+Number: heap 1 32 0 32 0 18446744073709551616
+Number: heap 1 32 0 32 0 000000000000000000002
+Range: heap 0 32 0 32 0 2
+Range: heap 257 32 0 32 0 2
+Range: heap 1 31 0 32 0 2
+Range: heap 1 65537 0 32 0 2
+Range: heap 1 32 0 32 0 1
+Range: heap 255 32 1 32 1
+Range: heap 8 65536 7 65536 1 65536
+Range: heap 0 32 0 32
+Count: heap 1 32 0 32 0
+Count: heap 1 32 0 32 0 2 x
+Count: layout
+Count: gc 0
+Count: order
+Order: names 0 0 0 0
+Range: names 99 0 0 0 0
+Order: layout fields
+Order: threads 1
+Order: turns 1
+Order: thread 99
+Order: clear 0
+Order: new 0 255
+Order: gset 255 0
+Order: order 255 c r@idle";
+
+/// Lines that are bad behind a heap line, and why.
+const SECOND: &str = "Late: heap 1 32 0 32 0 2
+Range: heap 0 32 0 32 0 2
+Number: names 1 1 1 y
+Range: names 65 0 0 0
+Count: names 0 0 0
+Count: names 0 0 0 0 0
+Order: layout array ref";
+
+/// Lines that are bad behind a names line, and why.
+const THIRD: &str = "Late: names 0 0 0 0
+Word: layout list int
+Word: layout fields ref bool
+Word: layout array kind x
+Count: layout array
+Count: layout array int int
+Range: gset 1 0
+Order: gset 0 0";
+
+/// Lines that are bad behind two layouts, and why.
+const FIFTH: &str = "Number: threads two
+Range: threads 0
+Range: threads 17
+Count: threads
+Count: threads 1 1
+Range: new 0 1
+Order: new 0 2
+Order: turns 1
+Order: order 0";
+
+/// Lines that are bad behind a threads line, and why.
+const SIXTH: &str = "Late: threads 1
+Late: layout array int
+Number: turns many
+Range: turns 0
+Count: turns 1 1
+Number: thread one
+Range: thread 2
+Count: thread
+Range: new 0 2
+Order: clear 0";
+
+/// Lines that are bad behind a turns line, and why.
+const SEVENTH: &str = "Late: turns 1
+Late: names 0 0 0 0
+Order: gc";
+
+/// Lines that are bad in the block of a thread, and why.
+const IN_BLOCK: &str = "Late: thread 0
+Late: turns 1
+Word: mew 0 0
+Number: new r 0
+Number: tie 16 0 n
+Range: new 16 0
+Range: new 0 1
+Range: newa 0 0 1
+Range: newa 0 1 60001
+Range: copy 0 16
+Range: get 0 0 65536
+Range: set 0 65536 0
+Range: read 16
+Range: gset 1 0
+Range: gget 0 1
+Range: pin 1 0
+Range: unpin 1
+Range: hget 0 1
+Range: weak 1 0
+Range: wget 0 1
+Range: back 1 0
+Range: retain 1
+Range: release 1
+Range: bget 0 1
+Range: tie 0 4 0
+Range: tie 0 0 4294967296
+Count: put 0 0
+Count: same 0 0 0
+Word: order c/1
+Word: order f/1
+Word: order r/1
+Word: order 0/x
+Word: order 0*18446744073709551616
+Word: order 2 *1
+Word: order 0**1
+Word: order 0@Idle
+Word: order r@
+Word: order u
+Word: order u0*1
+Word: order rr
+Range: order 2
+Range: order 2@mark
+Range: order 0*0
+Range: order r*1000001
+Range: order 0/0
+Range: order 0/1000001
+Range: order u4
+Range: order 4294967296
+Count: order";
+
+/// Lines that are bad behind an order line, and why.
+const LAST: &str = "Late: gc
+Late: thread 1
+Late: turns 1
+Late: layout fields
+Range: order 2";
+
+/// The fault of a text, where it has one.
+fn fault_of(alloc: Global, built: &Built, text: &str) -> Option<Fault> {
+    match read_script(alloc, built, text.as_bytes()) {
+        Ok(_) => None,
+        Err(fault) => Some(fault),
+    }
+}
+
+/// The line and the reason of a text's fault, in words.
+fn told(alloc: Global, built: &Built, text: &str) -> Result<String, AllocError> {
+    match fault_of(alloc, built, text) {
+        Some(Fault::Bad { line, why }) => format!(in alloc; "{line} {why:?}"),
+        Some(Fault::Memory) => format!(in alloc; "memory"),
+        None => format!(in alloc; "good"),
+    }
 }
 
 #[test]
-fn example(rt: HostRuntime) -> Result<(), Fail> {
-    let script = read(rt.alloc(), EXAMPLE)?;
-    let mut calls = [0; 16];
-    calls[0] = 2;
-    let mut births = [0; 16];
-    births[0] = 1;
-    let sizes = Sizes {
-        small: 1,
-        small_words: 64,
-        large: 0,
-        large_words: 64,
-        extra: 0,
-        extra_words: 2,
-        globals: 0,
-        stable: 0,
-        weak: 0,
-        back: 0,
-        threads: 1,
-        calls,
-        births,
-    };
-    assert_eq!(rt; script.sizes, sizes);
-    assert_eq!(rt; script.layouts.len(), 1);
-    match &script.layouts[0] {
-        Layout::Fields(kinds) => {
-            let kinds = kinds.as_slice();
-            assert_eq!(rt; kinds.len(), 2);
-            assert_eq!(rt; kinds[0], FieldKind::Ref);
-            assert_eq!(rt; kinds[1], FieldKind::Int);
+fn lines_have_their_first_reason(rt: HostRuntime) -> Result<(), Fail> {
+    let groups = [
+        (1, "", FIRST),
+        (2, HEAP, SECOND),
+        (3, NAMES, THIRD),
+        (5, LAYOUTS, FIFTH),
+        (6, THREADS, SIXTH),
+        (7, TURNS, SEVENTH),
+        (7, BLOCK, IN_BLOCK),
+        (8, ORDER, LAST),
+    ];
+    for (number, before, cases) in groups {
+        for case in cases.lines() {
+            let (why, line) = case.split_once(": ").ok_or("no case")?;
+            let text = format!(in rt.alloc(); "{before}{line}")?;
+            let wanted = format!(in rt.alloc(); "{number} {why}")?;
+            let found = told(rt.alloc(), &WHOLE, text.as_str())?;
+            assert!(rt; found.as_str() == wanted.as_str(), "{found} at {case}");
         }
-        Layout::Array(_) => panic!(rt; "not a list of fields"),
     }
-    assert_eq!(rt; script.threads.len(), 1);
-    let calls = script.threads[0].as_slice();
-    assert_eq!(rt; calls.len(), 2);
-    assert_eq!(rt; calls[0], Call::New(0, 0));
-    assert_eq!(rt; calls[1], Call::Same(0, 0));
     Ok(())
 }
 
-/// The numbers of layouts, calls and births of a script.
-fn counts(alloc: Global, text: &str) -> Result<(usize, u32, u32), Fault> {
-    let script = read(alloc, text)?;
-    Ok((
-        script.layouts.len(),
-        script.sizes.calls[0],
-        script.sizes.births[0],
-    ))
-}
-
 #[test]
-fn accepted(rt: HostRuntime) -> Result<(), Fail> {
+fn texts_end_in_many_ways(rt: HostRuntime) -> Result<(), Fail> {
     let table = [
-        // no block
-        ("heap 1 32 0 32 0 2\nnames 0 0 0 0\nthreads 1\n", (0, 0, 0)),
-        // spaces, comments, lines without words, and a block without calls or a line feed
+        ("", "1 Count"),
+        ("\n", "2 Count"),
+        ("\n\n", "3 Count"),
+        ("heap 2 64 1 64 0 2", "2 Count"),
+        ("heap 2 64 1 64 0 2\r\n\r\n# end", "4 Count"),
+        (NAMES, "3 Count"),
+        (LAYOUTS, "5 Count"),
+        (THREADS, "good"),
+        ("heap 2 64 1 64 0 2\r\nnames 1 1 1 1\r\nthreads 1\r", "good"),
+        ("heap 2 64 1 64 0 2\r\r\n", "1 Word"),
+        ("heap 2 64 1 64 0 2\nnames 1 1 1 1\nthreads 1\r\r", "3 Word"),
         (
-            "# a\n  heap  1 32 0   32 0 2 \n\n  \n#\nnames 0 0 0 0\n threads 1\nthread 0",
-            (0, 0, 0),
-        ),
-        // carriage returns, also at the end of the text, and leading zeros: twenty digits
-        (
-            "heap 1 00000000000000000064 0 32 0 2\r\nnames 0 0 0 0\r\n\r\nthreads 01\r",
-            (0, 0, 0),
-        ),
-        // layouts with no field and with one, the four calls, and greatest numbers
-        (
-            "heap 1 65536 7 65536 248 2\nnames 64 64 64 64\nlayout fields\nlayout fields int\nthreads 1\nthread 0\nnew 0 1\ncopy 15 0\nclear 0\nsame 0 15\nnew 2 0\n",
-            (2, 5, 2),
+            "#\x01\r\r\n  \n heap  02 064 1 64 0 2 \nnames 00000000000000000001 1 1 1\nthreads 1",
+            "good",
         ),
     ];
-    for (text, want) in table {
-        assert_eq!(rt; counts(rt.alloc(), text)?, want, "at {text}");
-    }
-    Ok(())
-}
-
-/// Whether what stands between two texts makes no script of them.
-fn is_refused(alloc: Global, before: &str, middle: &str, after: &str) -> Result<bool, AllocError> {
-    let text = format!(in alloc; "{before}{middle}{after}")?;
-    Ok(matches!(read(alloc, text.as_str()), Err(Fault::Bad)))
-}
-
-#[test]
-fn refused_heaps(rt: HostRuntime) -> Result<(), Fail> {
-    let table = [
-        // words that are no numbers: twenty-one and thirty digits, 2^64, a sign, a tab
-        "1 000000000000000000064 0 64 0 2",
-        "1 000000000000000000000000000064 0 64 0 2",
-        "18446744073709551616 64 0 64 0 2",
-        "+1 64 0 64 0 2",
-        "1\t64 0 64 0 2",
-        // numbers out of range
-        "0 64 0 64 0 2",
-        "1 31 0 64 0 2",
-        "1 64 0 31 0 2",
-        "1 64 0 64 0 1",
-        "256 64 1 64 0 2",
-        "16 65536 0 64 0 2",
-        // too few and too many words
-        "1 64 0 64 0",
-        "1 64 0 64 0 2 0",
-        // a second carriage return
-        "1 64 0 64 0 2\r\r",
-    ];
-    for line in table {
-        assert!(rt;
-            is_refused(rt.alloc(), "heap ", line, "\nnames 0 0 0 0\nthreads 1\n")?,
-            "at {line}"
-        );
+    for (text, wanted) in table {
+        let found = told(rt.alloc(), &WHOLE, text)?;
+        assert!(rt; found.as_str() == wanted, "{found} at {text}");
     }
     Ok(())
 }
 
 #[test]
-fn refused_lines(rt: HostRuntime) -> Result<(), Fail> {
+fn words_that_are_not_built_are_unknown(rt: HostRuntime) -> Result<(), Fail> {
     let table = [
-        "",
-        "names 0 0 0 0\n",
-        "names 0 65 0 0\nthreads 1\n",
-        "names 0 0 0 0\nthreads 2\n",
-        "names 0 0 0 0\nthreads 0\n",
-        "names 0 0 0 0\nthreads 1\n\0",
-        // a comment that does not begin its line
-        "names 0 0 0 0\nthreads 1\n #\n",
-        // lines that are no layout
-        "names 0 0 0 0\nlayout\nthreads 1\n",
-        "names 0 0 0 0\nlayout array int\nthreads 1\n",
-        "names 0 0 0 0\nlayout fields Ref\nthreads 1\n",
-        // lines in another order, and lines that come twice
-        "heap 1 64 0 64 0 2\nnames 0 0 0 0\nthreads 1\n",
-        "names 0 0 0 0\nthreads 1\nthreads 1\n",
-        "names 0 0 0 0\nthreads 1\nlayout fields\n",
-        "names 0 0 0 0\nthreads 1\nthread 0\nthread 0\n",
-        "names 0 0 0 0\nthreads 1\nthread 1\n",
-        "names 0 0 0 0\nthreads 1\nclear 0\n",
+        ("put 15 65535 18446744073709551615", "good"),
+        ("gget 0 0", "good"),
+        ("pin 99", "7 Word"),
+        ("gc", "7 Word"),
+        ("order 1 0 1", "good"),
+        ("order 2", "7 Range"),
+        ("order 0*1", "7 Word"),
+        ("order 0/1", "7 Word"),
+        ("order 0@idle", "7 Word"),
+        ("order r", "7 Word"),
+        ("order c", "7 Word"),
+        ("order f", "7 Word"),
+        ("order u0", "7 Word"),
     ];
-    for lines in table {
-        assert!(rt;
-            is_refused(rt.alloc(), "heap 1 64 0 64 0 2\n", lines, "")?,
-            "at {lines}"
-        );
-    }
-    assert!(rt; is_refused(rt.alloc(), "", "", "")?, "no byte");
-    assert!(rt;
-        is_refused(
-            rt.alloc(),
-            "names 0 0 0 0\nheap 1 64 0 64 0 2\nthreads 1\n",
-            "",
-            ""
-        )?
-    );
-    Ok(())
-}
-
-#[test]
-fn refused_calls(rt: HostRuntime) -> Result<(), Fail> {
-    let before =
-        "heap 1 64 0 64 0 2\nnames 0 0 0 0\nlayout fields ref\nthreads 1\nthread 0\nclear 0\n";
-    let table = [
-        "new 0",
-        "new 0 0 0",
-        "new 16 0",
-        "new 0 1",
-        "new 0 256",
-        "new 0 x",
-        "copy 0",
-        "copy 0 16",
-        "clear 16",
-        "clear",
-        "same 0 0 0",
-        "same 16 0",
-        "get 0 0 0",
-        "gc",
-        "New 0 0",
-        "turns 1",
-    ];
-    for line in table {
-        assert!(rt; is_refused(rt.alloc(), before, line, "\n")?, "at {line}");
+    for (line, wanted) in table {
+        let text = format!(in rt.alloc(); "{BLOCK}{line}")?;
+        let found = told(rt.alloc(), &TODAY, text.as_str())?;
+        assert!(rt; found.as_str() == wanted, "{found} at {line}");
     }
     Ok(())
 }
 
-/// A text before and after `count` copies of a piece.
-fn with_copies(
+/// So many pieces between a text and another.
+fn repeated(
     alloc: Global,
     before: &str,
     piece: &str,
     count: usize,
-    after: &str,
+    behind: &str,
 ) -> Result<String, AllocError> {
     let mut text = String::from_str(alloc, before)?;
     for _ in 0..count {
         text.push_str(piece)?;
     }
-    text.push_str(after)?;
+    text.push_str(behind)?;
     Ok(text)
 }
 
 #[test]
-fn limits(rt: HostRuntime) -> Result<(), Fail> {
-    let header = "heap 1 64 0 64 0 2\nnames 0 0 0 0\n";
+fn texts_meet_the_limits(rt: HostRuntime) -> Result<(), Fail> {
     let table = [
-        ("", "layout fields int\n", 64, "threads 1\n", true),
-        ("", "layout fields int\n", 65, "threads 1\n", false),
-        ("layout fields", " ref", 64, "\nthreads 1\n", true),
-        ("layout fields", " ref", 65, "\nthreads 1\n", false),
-        ("threads 1\nthread 0\n", "same 0 1\n", 16_384, "", true),
-        ("threads 1\nthread 0\n", "same 0 1\n", 16_385, "", false),
-        // 43 bytes before the spaces: 1,048,576 in all, and one more
-        ("threads 1\n", " ", 1_048_533, "", true),
-        ("threads 1\n", " ", 1_048_534, "", false),
+        (NAMES, "layout array int\n", 64, "threads 1", "good"),
+        (NAMES, "layout array int\n", 65, "threads 1", "67 Range"),
+        (
+            "heap 2 64 1 64 0 2\nnames 1 1 1 1\nlayout fields",
+            " ref",
+            64,
+            "\nthreads 1",
+            "good",
+        ),
+        (
+            "heap 2 64 1 64 0 2\nnames 1 1 1 1\nlayout fields",
+            " ref",
+            65,
+            "\nthreads 1",
+            "3 Range",
+        ),
+        (BLOCK, "gc\n", 16_384, "", "good"),
+        (BLOCK, "gc\n", 16_384, "gc\n", "16391 Range"),
+        (BLOCK, "gc\n", 16_384, "gc x\n", "16391 Range"),
+        (BLOCK, "gc\n", 16_384, "clear x\n", "16391 Number"),
+        (
+            "heap 2 64 1 64 0 2\nnames 1 1 1 1\nthreads 1\norder",
+            " 0",
+            65_536,
+            "",
+            "good",
+        ),
+        (
+            "heap 2 64 1 64 0 2\nnames 1 1 1 1\nthreads 1\norder",
+            " 0",
+            65_537,
+            "",
+            "4 Range",
+        ),
+        (
+            "heap 2 64 1 64 0 2\nnames 1 1 1 1\nthreads 1\norder",
+            " 0",
+            65_536,
+            "\norder 0",
+            "5 Range",
+        ),
+        (
+            "heap 2 64 1 64 0 2\nnames 1 1 1 1\nthreads 1\norder",
+            " 0",
+            65_537,
+            " x",
+            "4 Word",
+        ),
+        (THREADS, "#\n", 524_240, "", "good"),
+        (THREADS, "\n", 1_048_494, "", "good"),
+        (THREADS, "\n", 1_048_495, "", "1048500 Long"),
     ];
-    for (before, piece, count, after, is_script) in table {
-        let before = format!(in rt.alloc(); "{header}{before}")?;
-        let text = with_copies(rt.alloc(), before.as_str(), piece, count, after)?;
-        assert_eq!(rt;
-            read(rt.alloc(), text.as_str()).is_ok(),
-            is_script,
-            "at {count} times {piece}"
-        );
+    for (before, piece, count, behind, wanted) in table {
+        let text = repeated(rt.alloc(), before, piece, count, behind)?;
+        let found = told(rt.alloc(), &WHOLE, text.as_str())?;
+        assert!(rt; found.as_str() == wanted, "{found} at {count}");
     }
+    Ok(())
+}
+
+/// Who an order word names, and the number that it has, which is 0 for a phase.
+fn parts_of(word: OrderWord) -> (u32, u32) {
+    match word {
+        OrderWord::Run(actor, until) => (number_of_actor(actor), number_of_until(until)),
+        OrderWord::Uninstall(cleaner) => (40, u32::from(cleaner)),
+    }
+}
+
+fn number_of_actor(actor: Actor) -> u32 {
+    match actor {
+        Actor::Thread(thread) => u32::from(thread),
+        Actor::Collector => 20,
+        Actor::Finalizer => 21,
+        Actor::Round => 30,
+    }
+}
+
+fn number_of_until(until: Until) -> u32 {
+    match until {
+        Until::Turns(times) | Until::Calls(times) => times,
+        Until::Code(_) => 0,
+    }
+}
+
+#[test]
+fn order_words_are_read(rt: HostRuntime) -> Result<(), Fail> {
+    let text = repeated(
+        rt.alloc(),
+        THREADS,
+        "order 0 1*3 c f@stopb r r*4 1/9 u3",
+        1,
+        "\n",
+    )?;
+    let script = read_script(rt.alloc(), &WHOLE, text.as_bytes())?;
+    let wanted = [
+        (0, 1),
+        (1, 3),
+        (20, 1),
+        (21, 0),
+        (30, 1),
+        (30, 4),
+        (1, 9),
+        (40, 3),
+    ];
+    assert!(rt; script.order.len() == wanted.len());
+    for (word, parts) in script.order.iter().zip(wanted) {
+        assert!(rt; parts_of(*word) == parts);
+    }
+    Ok(())
+}
+
+#[test]
+fn scripts_are_read(rt: HostRuntime) -> Result<(), Fail> {
+    let lines = "thread 1\nnewa 1 1 60000\nclear 2\n";
+    let text = repeated(rt.alloc(), TURNS, lines, 1, "order 0")?;
+    let script = parse(rt.alloc(), text.as_bytes())?;
+    let sizes = script.sizes;
+    assert!(rt; script.turns == 9 && sizes.large == 1 && sizes.globals == 1);
+    assert!(rt; sizes.calls[1] == 2 && sizes.births[1] == 1);
+    assert!(rt; script.layouts.len() == 2 && script.threads.len() == 2);
+    assert!(rt;
+        matches!(
+            script.threads[1].as_slice(),
+            [Call::NewArray(1, 1, 60_000), _]
+        )
+    );
     Ok(())
 }

@@ -1,14 +1,14 @@
 ghost use Rattle.std.specs.Prelude.{◌≡◌, ◌↔◌, ℕ, ◌<◌, ◌≤◌, ◌⊎◌, IfOk, IfSome, IsNone, IsTrue, MatchOption};
 ghost use Rattle.kn_base.specs.Spans.{IsSpan};
-ghost use Rattle.kn_ranges.specs.SpanLists.{IsFreeListOf, free_word_count, front_of, put_in, without};
-ghost use Rattle.kn_single.specs.SingleState.{HasTakenCell, IsTakenCell, LeavesOneCell, whole_page};
+ghost use Rattle.kn_base.specs.SpanLists.{IsFreeListOf, free_word_count, front_of, put_in, without};
+ghost use Rattle.kn_single.specs.SingleState.{HasTakenCell, IsTakenFront, LeavesOneCell, whole_single_page};
 
 use kn_base::Span;
-use kn_ranges::Ranges;
+use kn_ranges::{Ranges, fronts_leave_rests};
 use std::alloc::{AllocError, Global};
 use std::marker::Model;
 
-/// A page of class 34.
+/// A page of the class `Single`.
 ///
 /// Contracts see a record of the frame's span and the free spans in order
 /// (`specs/SingleState.antt`). A `None` leaves the page as it was.
@@ -19,25 +19,22 @@ pub struct SinglePage {
 }
 
 impl Model for SinglePage {
-    ghost use Rattle.std.specs.Prelude.{◌≤◌};
-    ghost use Rattle.kn_base.specs.Spans.{IsSpan};
-    ghost use Rattle.kn_ranges.specs.FreeSpans.{page_room};
-    ghost use Rattle.kn_single.specs.SingleState.{SingleState, LeavesOneCell};
+    ghost use Rattle.kn_single.specs.SingleState.{IsSingle, SingleState};
 
     ghost Value = { SingleState };
 
     ghost view = { λ p. record { frame = p.frame; spans = p.free.spans } };
 
-    ghost invariant = { λ p. IsSpan p.frame × LeavesOneCell p.frame p.free.spans × (page_room p.frame ≤ p.free.room) };
+    ghost invariant = { λ p. IsSingle p.frame p.free };
 }
 
 impl SinglePage {
     /// A page over `span`, all free. An error is want of memory.
     pub fn open(alloc: Global, span: Span) -> Result<SinglePage, AllocError>
         requires { IsSpan span }
-        ensures { IfOk result (λ page. page ≡ whole_page span) }
+        ensures { IfOk result (λ page. page ≡ whole_single_page span) }
     {
-        let free = Ranges::open(alloc, span, span.len / 4 + 1)?;
+        let free = Ranges::open_frame(alloc, span)?;
         Ok(SinglePage { frame: span, free })
     }
 
@@ -48,19 +45,20 @@ impl SinglePage {
         ensures taken { IfSome result (λ cell. cell ≡ front_of n self.old.frame) }
         ensures after { MatchOption result (self.new ≡ self.old)
             (λ cell. self.new ≡ record self.old { spans = without cell self.old.spans }) }
-        ensures cell { IfSome result (IsTakenCell self.new) }
+        ensures cell { IfSome result (IsTakenFront self.new) }
     {
         if self.has_cell() || n > self.frame.len {
             return None;
         }
+        fronts_leave_rests();
         self.free.take_first(n)
     }
 
     /// Frees the taken cell.
     pub fn release(&mut self, cell: Span)
-        requires { IsTakenCell self.old cell }
+        requires { IsTakenFront self.old cell }
         ensures after { self.new ≡ record self.old { spans = put_in cell self.old.spans } }
-        ensures whole { self.new ≡ whole_page self.old.frame }
+        ensures whole { self.new ≡ whole_single_page self.old.frame }
     {
         self.free.put(cell);
     }

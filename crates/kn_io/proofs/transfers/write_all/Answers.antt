@@ -8,5 +8,5 @@ loop-done-preserved g c =
     record {
       within = omega (arith, c.in-Ok.ensures.within);
       appends = rw (← take-rest_append c.args.bytes.now c.loop-done.done c.in-Ok.n) more;
-      count = omega (arith, c.in-Ok.ensures.count);
+      without_fault = cc c.in-Ok.ensures.ok_without_fault;
     }

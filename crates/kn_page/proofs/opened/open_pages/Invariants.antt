@@ -1,4 +1,4 @@
-use Rattle.kn_page.proofs.Opening.{AreFirstBelow}
+use Rattle.kn_page.specs.Opened.{AreFirstBelow}
 use Rattle.kn_page.proofs.opened.open_pages.Given as goal
 
 abbrev pub invariant-loop-number : goal.invariant-loop-number

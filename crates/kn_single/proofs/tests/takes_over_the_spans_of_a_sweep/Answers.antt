@@ -6,4 +6,4 @@ pub reset-requires : goal.reset-requires
 reset-requires g c =
     let frame = ap (λ page. page.frame) c.in_ok-page.ensures in
     let spans = ap (λ ranges. ranges.spans) c.in_ok-swept.ensures in
-    (5, omega (arith, ap (λ span. span.len) frame), spans ∙ ap (words_behind 5) (sym frame))
+    (4, omega (arith, ap (λ span. span.len) frame), spans ∙ ap (words_behind 4) (sym frame))

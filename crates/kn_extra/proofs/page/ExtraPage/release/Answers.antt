@@ -1,18 +1,21 @@
-use Rattle.std.proofs.Common.{sym, subst, arith}
-use Rattle.kn_extra.specs.ExtraState.{ExtraState, extra_cell_words}
+use Rattle.std.proofs.Common.{ℕ, ◌≡◌, rules, subst}
+use Rattle.kn_base.specs.declared.numbers.Span.{Span}
+use Rattle.kn_base.specs.Spans.{AreApart}
 use Rattle.kn_ranges.specs.Cells.{IsTakenCell}
-use Rattle.kn_ranges.proofs.CellLists.{cell_released}
+use Rattle.kn_extra.specs.declared.page.TheConstants.{EXTRA_CELL}
+use Rattle.kn_extra.specs.ExtraState.{ExtraState}
 use Rattle.kn_extra.proofs.page.ExtraPage.release.Goals as goal
 
-pub put-requires-clause-room : goal.put-requires-clause-room
-put-requires-clause-room c =
-    let p = c.self.inside in
-    let taken = subst (λ (s : ExtraState). IsTakenCell s.frame extra_cell_words s.spans c.args.cell) (sym c.self.view_is) c.requires in
-    (cell_released p.frame extra_cell_words p.free.spans p.free.room c.args.cell (omega arith) c.self.invariant.room taken c.self.invariant.list c.self.invariant.cells).2
-
-pub invariant_of-self : goal.invariant_of-self
-invariant_of-self c =
-    let p = c.self.inside in
-    let taken = subst (λ (s : ExtraState). IsTakenCell s.frame extra_cell_words s.spans c.args.cell) (sym c.self.view_is) c.requires in
-    let kept = cell_released p.frame extra_cell_words p.free.spans p.free.room c.args.cell (omega arith) c.self.invariant.room taken c.self.invariant.list c.self.invariant.cells in
-    rw c.put.ensures.after (record { span = c.self.invariant.span; list = kept.0; cells = kept.1; room = c.self.invariant.room })
+pub returns-clause-others : goal.returns-clause-others
+returns-clause-others c =
+    let old = c.self.inside.cells in
+    let new = c.release.new.self in
+    let size : new.words ≡ EXTRA_CELL = search rules in
+    let Kept : ℕ → Span → Type 0 = λ words other. IsTakenCell new.frame words new.spans other in
+    let Apart : Span → Type 0 = λ other. AreApart other c.args.cell in
+    let others = c.release.ensures.others in
+    let of_new = subst (λ (words : ℕ). (other : Span) → Apart other → IsTakenCell old.frame old.words old.spans other → Kept words other) size others in
+    let Old : ℕ → Type 0 = λ words. (other : Span) → Apart other → IsTakenCell old.frame words old.spans other → Kept EXTRA_CELL other in
+    let of_old = subst Old c.self.invariant of_new in
+    let Others : ExtraState → Type 0 = λ page. (other : Span) → Apart other → IsTakenCell page.frame EXTRA_CELL page.spans other → Kept EXTRA_CELL other in
+    subst Others c.self.view_is of_old

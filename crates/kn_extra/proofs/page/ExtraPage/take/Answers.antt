@@ -1,28 +1,19 @@
-use Rattle.std.proofs.Common.{◌≡◌, Some, None, Option, MatchOption, IfSome, sym, subst, arith}
-use Rattle.std.specs.Option.{option_map}
+use Rattle.std.proofs.Common.{ℕ, ◌≡◌, IfSome, rules, subst}
 use Rattle.kn_base.specs.declared.numbers.Span.{Span}
-use Rattle.kn_extra.specs.ExtraState.{IsExtra, extra_cell_words}
+use Rattle.kn_base.specs.Spans.{AreApart}
 use Rattle.kn_ranges.specs.Cells.{IsTakenCell}
-use Rattle.kn_ranges.specs.FreeSpans.{FreeSpans}
-use Rattle.kn_ranges.specs.SpanLists.{first_fit, front_of, without}
-use Rattle.kn_ranges.proofs.CellLists.{cell_taken}
+use Rattle.kn_extra.specs.declared.page.TheConstants.{EXTRA_CELL}
+use Rattle.kn_extra.specs.ExtraState.{ExtraState}
 use Rattle.kn_extra.proofs.page.ExtraPage.take.Goals as goal
 
--- what a cell that is taken leaves, by what was answered
-kept : (frame : Span) (old new : FreeSpans) (result : Option Span) → IsExtra frame old → result ≡ option_map (front_of extra_cell_words) (first_fit extra_cell_words old.spans) → MatchOption result (new ≡ old) (λ cell. new ≡ record old { spans = without cell old.spans })
-    → IsExtra frame new × IfSome result (IsTakenCell frame extra_cell_words new.spans)
-kept frame old new None page taken after = (subst (λ (free : FreeSpans). IsExtra frame free) (sym after) page, tt)
-kept frame old new (Some cell) page taken after =
-    let left = cell_taken frame extra_cell_words old.spans cell (omega arith) page.list page.cells taken in
-    subst (λ (free : FreeSpans). IsExtra frame free × IsTakenCell frame extra_cell_words free.spans cell) (sym after)
-    (record { span = page.span; list = left.0; cells = left.1; room = page.room }, left.2)
-
-pub invariant_of-self : goal.invariant_of-self
-invariant_of-self c =
-    let p = c.self.inside in
-    (kept p.frame p.free c.take_first.new.self c.take_first.result c.self.invariant c.take_first.ensures.taken c.take_first.ensures.after).0
-
-pub returns-clause-cell : goal.returns-clause-cell
-returns-clause-cell c =
-    let p = c.self.inside in
-    (kept p.frame p.free c.take_first.new.self c.take_first.result c.self.invariant c.take_first.ensures.taken c.take_first.ensures.after).1
+pub returns-clause-others : goal.returns-clause-others
+returns-clause-others c =
+    let old = c.self.inside.cells in
+    let new = c.take.new.self in
+    let size : new.words ≡ EXTRA_CELL = search rules in
+    let Kept : ℕ → Span → Type 0 = λ words other. IsTakenCell new.frame words new.spans other × IfSome c.take.result (AreApart other) in
+    let others = c.take.ensures.others in
+    let of_new = subst (λ (words : ℕ). (other : Span) → IsTakenCell old.frame old.words old.spans other → Kept words other) size others in
+    let of_old = subst (λ (words : ℕ). (other : Span) → IsTakenCell old.frame words old.spans other → Kept EXTRA_CELL other) c.self.invariant of_new in
+    let Others : ExtraState → Type 0 = λ page. (other : Span) → IsTakenCell page.frame EXTRA_CELL page.spans other → Kept EXTRA_CELL other in
+    subst Others c.self.view_is of_old

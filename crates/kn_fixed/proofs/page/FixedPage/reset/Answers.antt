@@ -1,8 +1,7 @@
 use Rattle.std.proofs.Common.{All, sym, subst, arith}
 use Rattle.kn_base.specs.Spans.{LiesIn}
-use Rattle.kn_fixed.specs.FixedState.{FixedState}
 use Rattle.kn_ranges.specs.Cells.{LeavesWholeCells}
-use Rattle.kn_ranges.proofs.CellLists.{cells_left}
+use Rattle.kn_fixed.specs.FixedState.{FixedState}
 use Rattle.kn_fixed.proofs.page.FixedPage.reset.Goals as goal
 
 pub refill-requires-clause-room : goal.refill-requires-clause-room
@@ -11,8 +10,8 @@ refill-requires-clause-room c =
     let spans = c.args.free.now.spans in
     let within = subst (λ (s : FixedState). All (λ span. LiesIn span s.frame) spans) (sym c.self.view_is) c.requires.within in
     let whole = subst (λ (s : FixedState). LeavesWholeCells s.frame s.words spans) (sym c.self.view_is) c.requires.cells in
-    let left = cells_left 0 _ p.frame p.words spans c.self.invariant.size.0 c.spans.ensures.free_list within whole in
-    rw c.spans.ensures.spans (omega (arith, left.2, c.self.invariant.room))
+    let left = c.whole_cells_are_left.ensures p.frame p.words spans c.self.invariant.size.0 c.spans.ensures.free_list within whole in
+    rw c.spans.ensures.spans (omega (arith, left.1, c.self.invariant.room))
 
 pub invariant_of-self : goal.invariant_of-self
 invariant_of-self c =
@@ -20,5 +19,6 @@ invariant_of-self c =
     let spans = c.args.free.now.spans in
     let within = subst (λ (s : FixedState). All (λ span. LiesIn span s.frame) spans) (sym c.self.view_is) c.requires.within in
     let whole = subst (λ (s : FixedState). LeavesWholeCells s.frame s.words spans) (sym c.self.view_is) c.requires.cells in
-    let left = cells_left 0 _ p.frame p.words spans c.self.invariant.size.0 c.spans.ensures.free_list within whole in
-    rw (c.refill.ensures, c.spans.ensures.spans) (record { span = c.self.invariant.span; size = c.self.invariant.size; list = left.0; cells = left.1; room = c.self.invariant.room })
+    let left = c.whole_cells_are_left.ensures p.frame p.words spans c.self.invariant.size.0 c.spans.ensures.free_list within whole in
+    let kept = c.self.invariant in
+    rw (c.refill.ensures, c.spans.ensures.spans) (record { span = kept.span; size = kept.size; cells = left.0; room = kept.room })

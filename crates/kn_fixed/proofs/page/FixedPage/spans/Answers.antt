@@ -7,4 +7,5 @@ use Rattle.kn_fixed.proofs.page.FixedPage.spans.Goals as goal
 pub returns-clause-cells : goal.returns-clause-cells
 returns-clause-cells c =
     let p = c.self.inside in
-    subst (λ (s : FixedState). All (IsOnCells s.frame s.words) s.spans) c.self.view_is (All-from_recursion (IsOnCells p.frame p.words) p.free.spans c.self.invariant.cells)
+    let cells = All-from_recursion (IsOnCells p.frame p.words) p.free.spans c.self.invariant.cells.cells in
+    subst (λ (page : FixedState). All (IsOnCells page.frame page.words) page.spans) c.self.view_is cells

@@ -1,25 +1,29 @@
-use Rattle.std.proofs.Common.{All, ◌+◌, length, ap, sym, subst, arith}
+use Rattle.std.proofs.Common.{ap, sym, subst, arith}
+use Rattle.kn_base.specs.declared.numbers.Span.{Span}
 use Rattle.kn_base.specs.Spans.{AreApart}
-use Rattle.kn_ranges.specs.SpanLists.{IsFreeListOf, put_in}
-use Rattle.kn_ranges.proofs.Putting.{apart_put_in}
-use Rattle.kn_nextfit.proofs.NextFit.{room_for_put}
+use Rattle.kn_nextfit.specs.NextFitState.{HasRoomAfter, IsTakenSpan, NextFitState}
 use Rattle.kn_nextfit.proofs.page.NextFitPage.release.Goals as goal
 
 pub put-requires-clause-room : goal.put-requires-clause-room
 put-requires-clause-room c =
-    let spans = ap (λ page. page.spans) c.self.view_is in
-    let room = ap (λ page. page.room) c.self.view_is in
-    let count = ap (λ list. length (put_in c.args.cell list)) spans in
-    room_for_put c.self.inside.free c.args.cell
-    (subst (λ list. All (AreApart c.args.cell) list) (sym spans) c.requires.cell.not_free)
-    (omega (arith, count, room, c.requires.room))
+    let room = subst (λ (page : NextFitState). HasRoomAfter page c.args.cell) (sym c.self.view_is) c.requires.room in
+    let taken = subst (λ (page : NextFitState). IsTakenSpan page c.args.cell) (sym c.self.view_is) c.requires.cell in
+    c.puts_have_room.ensures c.self.inside.free c.args.cell taken.not_free room
 
 pub invariant_of-self : goal.invariant_of-self
 invariant_of-self c =
-    let frame = c.self.inside.frame in
-    let same = ap (λ page. page.frame) c.self.view_is in
-    let inside = c.requires.cell.in_frame in
-    let start = ap (λ span. span.start) same in
-    let len = ap (λ span. span.len) same in
-    let list = apart_put_in frame.start (frame.start + frame.len + 1) c.args.cell c.self.inside.free.spans (omega (arith, inside.0, start)) c.requires.cell.not_empty.0 (omega (arith, inside.1, start, len)) c.self.invariant.1 in
-    (c.self.invariant.0, subst (IsFreeListOf frame) (sym (ap (λ ranges. ranges.spans) c.put.ensures.after)) list, omega (arith, ap (λ ranges. ranges.room) c.put.ensures.after, c.self.invariant.2))
+    let p = c.self.inside in
+    let taken = subst (λ (page : NextFitState). IsTakenSpan page c.args.cell) (sym c.self.view_is) c.requires.cell in
+    let list = c.put.ensures.within p.frame taken.in_frame c.self.invariant.list in
+    record { span = c.self.invariant.span; list = list; room = omega (arith, ap (λ ranges. ranges.room) c.put.ensures.after, c.self.invariant.room) }
+
+pub returns-clause-others : goal.returns-clause-others
+returns-clause-others c =
+    let p = c.self.inside in
+    let after : NextFitState = record { frame = p.frame; spans = c.put.new.self.spans; cursor = p.cursor; room = c.put.new.self.room } in
+    let Stays : NextFitState → Type 0 = λ page. (other : Span) → AreApart other c.args.cell → IsTakenSpan page other → IsTakenSpan after other in
+    subst Stays c.self.view_is (λ other apart taken. record {
+      not_empty = taken.not_empty;
+      in_frame = taken.in_frame;
+      not_free = c.put.ensures.others other taken.not_empty.0 apart taken.not_free;
+    })

@@ -1,28 +1,35 @@
-use Rattle.std.proofs.Common.{◌≤◌, ◌≡◌, List, length, sym, ap, inl, inr, arith}
+use Rattle.std.proofs.Common.{◌+◌, ◌≡◌, All, List, ap, sym, subst, arith}
+use Rattle.std.proofs.lemmas.List.Elements.{All-from_recursion, recursion_from_All}
 use Rattle.kn_base.specs.declared.numbers.Span.{Span}
+use Rattle.kn_base.specs.SpanLists.{IsFreeListOf, put_in}
+use Rattle.kn_base.specs.Spans.{AreApart, end_of}
 use Rattle.kn_ranges.specs.FreeSpans.{FreeSpans}
-use Rattle.kn_ranges.specs.SpanLists.{put_in}
-use Rattle.kn_ranges.proofs.Places.{length-put_in_touching}
-use Rattle.kn_ranges.proofs.Putting.{apart_put_in, length-put_in}
+use Rattle.kn_ranges.proofs.Putting.{apart_put_in}
+use Rattle.kn_ranges.proofs.Words.{apart_kept_put_in}
 use Rattle.kn_ranges.proofs.ranges.Ranges.put.Goals as goal
-use Rattle.kn_ranges.proofs.ranges.Ranges.put.Goals.{After-put_span}
 
 pub returns-clause-free_list : goal.returns-clause-free_list
 returns-clause-free_list c =
     let span : Span = c.args.span in
-    rw c.put_span.ensures.after (apart_put_in 0 _ span c.self.inside.spans.items (omega arith) c.requires.span.0 c.requires.span.1 c.self.invariant.0)
-
--- the list has room for the span
-within_room : (c : After-put_span) → length (put_in c.args.span c.self.inside.spans.items) ≤ c.self.inside.room
-within_room c =
-    let items : List Span = c.self.inside.spans.items in
-    let spans_is : c.args.self.now.spans ≡ items = ap (λ (v : FreeSpans). v.spans) (sym c.self.view_is) in
-    let room_is : c.args.self.now.room ≡ c.self.inside.room = ap (λ (v : FreeSpans). v.room) (sym c.self.view_is) in
-    elim c.requires.room [
-      | inl less ↦ omega (arith, length-put_in c.args.span items, ap length spans_is)
-      | inr touching ↦ omega (arith, length-put_in_touching 0 _ c.args.span items c.self.invariant.0 (rw spans_is at touching), c.self.invariant.1)
-    ]
+    rw c.put_span.ensures (apart_put_in 0 _ span c.self.inside.free.spans (omega arith) c.requires.span.0 c.requires.span.1 c.self.invariant)
 
 pub invariant_of-self : goal.invariant_of-self
-invariant_of-self c =
-    (returns-clause-free_list c, omega (arith, ap length c.put_span.ensures.after, within_room c), omega (arith, c.put_span.ensures.capacity, c.self.invariant.2))
+invariant_of-self c = returns-clause-free_list c
+
+pub returns-clause-within : goal.returns-clause-within
+returns-clause-within c = λ frame lies list.
+    let span : Span = c.args.span in
+    let items : List Span = c.self.inside.free.spans in
+    let spans_is : c.args.self.now.spans ≡ items = ap (λ (v : FreeSpans). v.spans) (sym c.self.view_is) in
+    rw c.put_span.ensures
+    (apart_put_in frame.start (end_of frame + 1) span items lies.0 c.requires.span.0 (omega (arith, lies.1)) (subst (IsFreeListOf frame) spans_is list))
+
+pub returns-clause-others : goal.returns-clause-others
+returns-clause-others c = λ other some beside apart.
+    let span : Span = c.args.span in
+    let items : List Span = c.self.inside.free.spans in
+    let spans_is : c.args.self.now.spans ≡ items = ap (λ (v : FreeSpans). v.spans) (sym c.self.view_is) in
+    let before = recursion_from_All (AreApart other) items (subst (λ xs. All (AreApart other) xs) spans_is apart) in
+    rw c.put_span.ensures
+    (All-from_recursion (AreApart other) (put_in span items)
+    (apart_kept_put_in 0 _ span other items (omega arith) c.requires.span.0 c.requires.span.1 some c.self.invariant beside before))

@@ -1,7 +1,7 @@
 use Rattle.std.proofs.Common.{◌≡◌, Some, IfSome, is_some, ap, subst, sym, ◌∙◌, refl, inl, inr, arith}
 use Rattle.std.proofs.lemmas.Bool.{true≢false}
-use Rattle.kn_ranges.specs.SpanLists.{front_of}
-use Rattle.kn_single.specs.SingleState.{SingleState, HasTakenCell, IsTakenCell, words_behind}
+use Rattle.kn_base.specs.SpanLists.{front_of}
+use Rattle.kn_single.specs.SingleState.{SingleState, HasTakenCell, IsTakenFront, words_behind}
 use Rattle.kn_single.proofs.Behind.{whole_without_cell, front_taken}
 use Rattle.kn_single.proofs.page.SinglePage.take.Goals as goal
 
@@ -10,14 +10,20 @@ no_cell : (c : goal.After-take_first) → HasTakenCell c.args.self.now → ⊥
 no_cell c has = true≢false (sym (c.has_cell.ensures.1 has) ∙ c.if-has_cell.false)
 
 -- the cell is the frame's front, and the words behind it are free
-front : (c : goal.After-take_first) → (c.take_first.result ≡ Some (front_of c.args.n c.self.inside.frame)) × (c.take_first.new.self.spans ≡ words_behind c.args.n c.self.inside.frame) × (c.take_first.new.self.room ≡ c.self.inside.free.room)
+front : (c : goal.After-take_first) → (c.take_first.result ≡ Some (front_of c.args.n c.self.inside.frame))
+    × (c.take_first.new.self.spans ≡ words_behind c.args.n c.self.inside.frame) × (c.take_first.new.self.room ≡ c.self.inside.free.room)
 front c =
-    let page : SingleState = record { frame = c.self.inside.frame; spans = c.self.inside.free.spans } in
-    let whole = whole_without_cell page c.self.invariant.0.0 c.self.invariant.1 (λ has. no_cell c (subst HasTakenCell c.self.view_is has)) in
-    front_taken c.args.n c.self.inside.frame c.self.inside.free c.take_first.new.self c.take_first.result whole c.if-n-self.false c.take_first.ensures.taken c.take_first.ensures.after
+    let p = c.self.inside in
+    let page : SingleState = record { frame = p.frame; spans = p.free.spans } in
+    let none : HasTakenCell page → ⊥ = λ has. no_cell c (subst HasTakenCell c.self.view_is has) in
+    let whole = whole_without_cell page c.self.invariant.span.0 c.self.invariant.cell none in
+    let taken = c.take_first.ensures in
+    front_taken c.args.n p.frame p.free c.take_first.new.self c.take_first.result c.fronts_leave_rests.ensures whole c.if-n-self.false taken.taken taken.after
 
 pub invariant_of-self : goal.invariant_of-self
-invariant_of-self c = let w = front c in (c.self.invariant.0, (c.args.n, c.if-n-self.false, w.1), omega (arith, w.2, c.self.invariant.2))
+invariant_of-self c =
+    let w = front c in
+    record { span = c.self.invariant.span; cell = (c.args.n, c.if-n-self.false, w.1); room = omega (arith, w.2, c.self.invariant.room) }
 
 pub returns-clause-none : goal.returns-clause-none
 returns-clause-none c =
@@ -40,5 +46,5 @@ pub returns-clause-cell : goal.returns-clause-cell
 returns-clause-cell c =
     let w = front c in
     let after : SingleState = record { frame = c.self.inside.frame; spans = c.take_first.new.self.spans } in
-    subst (λ found. IfSome found (IsTakenCell after)) (sym w.0)
+    subst (λ found. IfSome found (IsTakenFront after)) (sym w.0)
     (record { at_start = refl; not_empty = c.requires; within = c.if-n-self.false; rest_is_free = w.1 })
