@@ -1,5 +1,6 @@
 -- What is held of the cells in the slots, where one is taken or put back.
-use Rattle.std.proofs.Common.{ℕ, zero, suc, ◌<◌, ◌≡◌, ◌≢◌, List, [], ◌∷◌, Option, Some, None, All, length, slice_set, sym, subst, ◌∙◌, refl, inl, inr, arith}
+use Rattle.std.proofs.Common.{ℕ, zero, suc, ◌<◌, ◌≡◌, ◌≢◌, List, [], ◌∷◌, Option, Some, None, All, length, slice_set, sym, subst, ◌∙◌, refl, inl, inr}
+use Rattle.std.proofs.Common.{arith}
 use Rattle.std.specs.Prelude.{slice_get}
 use Rattle.std.proofs.Math.ListN.{replicate}
 use Rattle.std.proofs.lemmas.Bool.{cases_eq}
@@ -18,7 +19,8 @@ no_cell (suc n) zero cell e = cc
 no_cell (suc n) (suc i) cell e = no_cell n i cell e
 
 -- a wholly free frame
-pub held_at_start : (frame : Span) (n : ℕ) → IsSpan frame → HoldsCells frame (record { spans = frame ∷ []; room = page_room frame }) (replicate n None)
+pub held_at_start : (frame : Span) (n : ℕ) → IsSpan frame → HoldsCells frame (record { spans = frame ∷ []; room = page_room frame })
+    (replicate n None)
 held_at_start frame n span = record {
   span = span;
   on_cells = record {
@@ -44,7 +46,8 @@ module _ (slots : List (Option Span)) (slot : ℕ) (within : slot < length slots
       → slice_get slots i ≡ Some (Some cell)
   in_other value i cell differ e = sym (get_set_else slots slot value i differ) ∙ e
 
-module _ (frame : Span) (old new : FreeSpans) (slots : List (Option Span)) (slot : ℕ) (held : HoldsCells frame old slots) (within : slot < length slots) where
+module _ (frame : Span) (old new : FreeSpans) (slots : List (Option Span)) (slot : ℕ) (held : HoldsCells frame old slots)
+    (within : slot < length slots) where
   -- a cell taken into a slot
   module _ (cell : Span) (taken : IsTakenCell frame 2 new.spans cell) (others : (other : Span) → 0 < other.len → All (AreApart other) old.spans
       → All (AreApart other) new.spans × AreApart other cell) where
@@ -73,7 +76,8 @@ module _ (frame : Span) (old new : FreeSpans) (slots : List (Option Span)) (slot
               subst (λ c. AreApart c b) (same_cell i a here e) (other_way b cell (other_cell j b there f).1)
           | inr other ↦ elim (cases_eq slot j) [
             | inl here ↦ subst (AreApart a) (same_cell j b here f) (other_cell i a other e).1
-            | inr both ↦ held.apart i j a b differ (in_other slots slot within (Some cell) i a other e) (in_other slots slot within (Some cell) j b both f)
+            | inr both ↦ held.apart i j a b differ (in_other slots slot within (Some cell) i a other e)
+                (in_other slots slot within (Some cell) j b both f)
           ]
         ]
 

@@ -71,7 +71,8 @@ module _ (z : Ground) (thread : ℕ) (g : Graph) (s : IsSound z g) (Q : Graph �
   if_not true a a' h k = h
   if_not false a a' h k = k refl
 
-  kept : (x : Option ℕ) (f : ℕ → Answer) → ((n : ℕ) → x ≡ Some n → n < g.born) → ((n : ℕ) → x ≡ Some n → Alive g.born (shapes g) (Some n) → Q (f n).after) →
+  kept : (x : Option ℕ) (f : ℕ → Answer) → ((n : ℕ) → x ≡ Some n → n < g.born) →
+      ((n : ℕ) → x ≡ Some n → Alive g.born (shapes g) (Some n) → Q (f n).after) →
       Q (on_referent z thread g x f).after
   kept x f born h = named x _ (λ n e. if_not (g.object n).condemned _ (f n) nothing (λ free. h n e (born n e, free)))
 

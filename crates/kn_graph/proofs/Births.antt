@@ -65,7 +65,8 @@ module _ (z : Ground) (g : Graph) (s : IsSound z g) (thread r : ℕ) (near : thr
         g.object g.born new fields k
         (λ ne. fields_still z g.born (shapes g) (g.born + 1) (shapes (with_birth g thread r new)) still (shapes g k) (pointers g k)
         (s.fields k (older k ne h)));
-    flags = λ k h. upd_case (λ k (y : Object). FlagsAgree (shape_of y) (finalization_of y)) g.object g.born new flags k (λ ne. s.flags k (older k ne h));
+    flags = λ k h. upd_case (λ k (y : Object). FlagsAgree (shape_of y) (finalization_of y)) g.object g.born new flags k
+        (λ ne. s.flags k (older k ne h));
     cells = λ k h. upd_case (λ k (y : Object). HasCell z (shape_of y)) g.object g.born new cell k (λ ne. s.cells k (older k ne h));
     apart = apart_then;
     settled = λ e k h. upd_case (λ k (y : Object). IsSettled g.paused y) g.object g.born new settled k (λ ne. s.settled e k (older k ne h));

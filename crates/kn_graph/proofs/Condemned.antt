@@ -37,7 +37,8 @@ module _ (z : Ground) where
         inl ((change_succeeds z by g g' (answer_changes z by g s reply address g' call f.in_range f.answer)).1 n near dead)
     event_condemns by epoch (events.Pause e) g' f near dead =
         let old : n < g.born = subst (λ (x : Graph). n < x.born) f.1.after near in
-        of_pause e old (by_pause (g.object n).condemned refl f.1.flag f.1.condemns old (subst (λ (x : Graph). (x.object n).condemned ≡ true) f.1.after dead))
+        of_pause e old (by_pause (g.object n).condemned refl f.1.flag f.1.condemns old
+        (subst (λ (x : Graph). (x.object n).condemned ≡ true) f.1.after dead))
     event_condemns by epoch (events.Released a) g' f near dead =
         let k = f.1.object in
         inl (subst (CondemnsNone g) (sym f.1.after) (object_condemns_none g k (record (g.object k) { released = true }) refl) n near dead)
@@ -48,7 +49,8 @@ module _ (z : Ground) where
         let k = f.1.object in
         inl (subst (CondemnsNone g) (sym f.1.after) (object_condemns_none g k (record (g.object k) { finalized = Some g.paused }) refl) n near dead)
     event_condemns by epoch (events.Done e) g' f near dead =
-        let same : CondemnsNone g (record g { done = e }) = λ n near dead. (near, dead) in inl (subst (CondemnsNone g) (sym f.1.after) same n near dead)
+        let same : CondemnsNone g (record g { done = e }) = λ n near dead. (near, dead) in
+        inl (subst (CondemnsNone g) (sym f.1.after) same n near dead)
 
     next_condemns : (entry : Entry) (g' : Graph) → Follows z entry g g' → n < g'.born → (g'.object n).condemned ≡ true →
         ((n < g.born) × ((g.object n).condemned ≡ true)) ⊎ ((k : ℕ) × (entry.what ≡ events.Pause k) × (n < g.born) × (¬ IsReachable g n))
@@ -63,7 +65,8 @@ module _ (z : Ground) where
       at (inl old) = old
       at (inr p) = let h : false ≡ true = sym quiet ∙ ap is_pause p.1 in absurd (cc)
 
-  later : (entry : Entry) (h : List Entry) (g mid : Graph) (n : ℕ) → Follows z entry g mid → WasUnreachable z mid h n → WasUnreachable z g (entry ∷ h) n
+  later : (entry : Entry) (h : List Entry) (g mid : Graph) (n : ℕ) → Follows z entry g mid → WasUnreachable z mid h n →
+      WasUnreachable z g (entry ∷ h) n
   later entry h g mid n f w = record {
     before = entry ∷ w.before;
     pause = w.pause;

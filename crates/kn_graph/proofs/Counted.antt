@@ -28,7 +28,8 @@ module _ (z : Ground) where
         let more = sum_by-cons (λ (x : Entry). cond (kind x.what) 1 0) e h in
         omega (arith, rest, one, more)
 
-  event_paused : (by epoch : ℕ) (e : Event) (g g' : Graph) → IsSound z g → EventFollows z by epoch e g g' → g'.paused ≡ cond (is_pause e) 1 0 + g.paused
+  event_paused : (by epoch : ℕ) (e : Event) (g g' : Graph) → IsSound z g → EventFollows z by epoch e g g' →
+      g'.paused ≡ cond (is_pause e) 1 0 + g.paused
   event_paused by epoch (events.Call call reply address) g g' s f =
       let same = change_epochs z by g g' (answer_changes z by g s reply address g' call f.in_range f.answer) in omega (arith, same.0)
   event_paused by epoch (events.Pause e) g g' s f = omega (arith, ap (λ (x : Graph). x.paused) f.1.after, f.1.next)

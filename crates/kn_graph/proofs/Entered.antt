@@ -38,7 +38,8 @@ module _ (z : Ground) where
   before_log false entry log e = refl
 
   -- a caller's last entry has the epoch that the graph keeps of it
-  pub entered_last : (h : List Entry) (g g' : Graph) → IsSound z g → Leads z g h g' → (by : ℕ) → g'.entered by ≡ last_epoch (g.entered by) (log_of by h)
+  pub entered_last : (h : List Entry) (g g' : Graph) → IsSound z g → Leads z g h g' → (by : ℕ) →
+      g'.entered by ≡ last_epoch (g.entered by) (log_of by h)
   entered_last [] g g' s l by = ap (λ (x : Graph). x.entered by) (sym l)
   entered_last (entry ∷ h) g g' s l by =
       entered_last h l.0 g' (next_sound z entry g l.0 s l.1) l.2 by

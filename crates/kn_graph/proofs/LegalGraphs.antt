@@ -62,7 +62,8 @@ module _ (z : Ground) where
     change_sound g' (of_points n f x o kind a) = points_sound z g s n o.0 f x kind a
     change_sound g' (of_number n f x o) = number_sound z g s n o.0 f x
     change_sound g' (of_tie n c k o e) = tie_sound z g s n o.0 c k o.1
-    change_sound g' (of_birth r address layout fields small laid_out legal) = birth_sound z g s thread r address layout fields near small laid_out legal
+    change_sound g' (of_birth r address layout fields small laid_out legal) =
+        birth_sound z g s thread r address layout fields near small laid_out legal
 
   done_sound : (e : ℕ) (g g' : Graph) → IsSound z g → DoneFollows e g g' → IsSound z g'
   done_sound e g g' s f = subst (IsSound z) (sym f.after) (record {
@@ -81,7 +82,8 @@ module _ (z : Ground) where
   event_sound : (by epoch : ℕ) (e : Event) (g g' : Graph) → IsSound z g → EventFollows z by epoch e g g' → IsSound z g'
   event_sound by epoch (events.Call call reply address) g g' s f =
       change_sound g s by f.by_thread g' (answer_changes z by g s reply address g' call f.in_range f.answer)
-  event_sound by epoch (events.Pause e) g g' s f = subst (IsSound z) (sym f.1.after) (pause_sound z g s f.1.flag f.1.condemns e f.1.next f.1.last_done)
+  event_sound by epoch (events.Pause e) g g' s f = subst (IsSound z) (sym f.1.after)
+      (pause_sound z g s f.1.flag f.1.condemns e f.1.next f.1.last_done)
   event_sound by epoch (events.Released a) g g' s f =
       let r = f.1 in subst (IsSound z) (sym r.after) (release_sound z g s r.object r.named.lives.0 r.condemned r.loose)
   event_sound by epoch (events.Queued a) g g' s f =

@@ -64,7 +64,8 @@ module _ (z : Ground) (o : Shape) (c : HasCell z o) where
       let few = good.few_layouts in
       (omega arith, short_at (slice_get z.layouts o.layout) o.length (λ x e. good_at z.layouts o.layout x good.layouts e) c.laid_out)
 
-begins : (b : Bool) (x : Span) (rest : Option Span) (w : Span) → cond b (Some x) rest ≡ Some w → 1 ≤ x.start → (rest ≡ Some w → 1 ≤ w.start) → 1 ≤ w.start
+begins : (b : Bool) (x : Span) (rest : Option Span) (w : Span) → cond b (Some x) rest ≡ Some w → 1 ≤ x.start → (rest ≡ Some w → 1 ≤ w.start) →
+    1 ≤ w.start
 begins true x rest w e h k = let same : x ≡ w = cc in subst (λ (s : Span). 1 ≤ s.start) same h
 begins false x rest w e h k = k e
 

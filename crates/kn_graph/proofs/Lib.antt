@@ -19,13 +19,3 @@ pub mod Entered
 pub mod Lengths
 pub mod Parts
 pub mod PublicLaws
-pub mod Adding
-pub mod Behind
-pub mod Fields
-pub mod Owners
-pub mod Kept
-pub mod Frames
-pub mod Held
-pub mod Changed
-pub mod Answering
-pub mod Pausing

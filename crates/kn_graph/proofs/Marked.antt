@@ -104,10 +104,12 @@ module _ (z : Ground) (test : Object → Bool) (kind : Event → Bool)
   change_passing thread g g' (of_back b n fit a) = refl
   change_passing thread g g' (of_count b c small a) = refl
   change_passing thread g g' (of_points n f x o kind a) =
-      same_at g n (record (g.object n) { points = upd (g.object n).points f x }) (of_fields (g.object n) (upd (g.object n).points f x) (g.object n).number)
+      same_at g n (record (g.object n) { points = upd (g.object n).points f x })
+      (of_fields (g.object n) (upd (g.object n).points f x) (g.object n).number)
       ∙ omega arith
   change_passing thread g g' (of_number n f x o) =
-      same_at g n (record (g.object n) { number = upd (g.object n).number f x }) (of_fields (g.object n) (g.object n).points (upd (g.object n).number f x))
+      same_at g n (record (g.object n) { number = upd (g.object n).number f x })
+      (of_fields (g.object n) (g.object n).points (upd (g.object n).number f x))
       ∙ omega arith
   change_passing thread g g' (of_tie n c k o e) =
       same_at g n (record (g.object n) { tie = Some (c, k) }) (of_tied (g.object n) (Some (c, k))) ∙ omega arith

@@ -26,7 +26,8 @@ module _ (z : Ground) where
       (flags : FlagsAgree (shape_of o) (finalization_of o))
       (settled : g.done ≡ g.paused → IsSettled g.paused o) where
     same_condemned : (k : ℕ) → (upd g.object n o k).condemned ≡ (g.object k).condemned
-    same_condemned k = upd_case (λ k (y : Object). y.condemned ≡ (g.object k).condemned) g.object n o (ap (λ (h : Shape). h.condemned) like) k (λ _. refl)
+    same_condemned k = upd_case (λ k (y : Object). y.condemned ≡ (g.object k).condemned) g.object n o (ap (λ (h : Shape). h.condemned) like) k
+        (λ _. refl)
 
     still : (x : Option ℕ) → Alive g.born (shapes g) x → Alive g.born (shapes (with_object g n o)) x
     still = alive_still g.born (shapes g) g.born (shapes (with_object g n o)) (omega arith) (λ k _ free. same_condemned k ∙ free)
@@ -60,7 +61,8 @@ module _ (z : Ground) where
 
   -- each change of an object that an entry makes
   module _ (g : Graph) (s : IsSound z g) (n : ℕ) (near : n < g.born) where
-    pub points_sound : (f : ℕ) (x : Option ℕ) → field_kind z (shapes g n) f ≡ Some of_ref → Alive g.born (shapes g) x → IsSound z (with_points g n f x)
+    pub points_sound : (f : ℕ) (x : Option ℕ) → field_kind z (shapes g n) f ≡ Some of_ref → Alive g.born (shapes g) x →
+        IsSound z (with_points g n f x)
     points_sound f x kind alive =
         let old = s.fields n near in
         object_sound g s n near (record (g.object n) { points = upd (g.object n).points f x }) refl (λ e. e)
@@ -98,7 +100,8 @@ module _ (z : Ground) where
       not_free : {A : Type 0} → (g.object n).condemned ≡ false → A
       not_free e = let h : true ≡ false = sym dead ∙ e in absurd (cc)
 
-      pub release_sound : ((g.object n).tie ≡ None) ⊎ ((g.object n).finalized ≢ None) → IsSound z (with_object g n (record (g.object n) { released = true }))
+      pub release_sound : ((g.object n).tie ≡ None) ⊎ ((g.object n).finalized ≢ None) →
+          IsSound z (with_object g n (record (g.object n) { released = true }))
       release_sound loose =
           let old = s.flags n near in
           object_sound g s n near (record (g.object n) { released = true }) refl (λ e. absurd (cc))

@@ -44,7 +44,8 @@ module _ (z : Ground) where
   next_done : (entry : Entry) (g g' : Graph) → IsSound z g → is_pause entry.what ≡ false → IsDone g → Follows z entry g g' → IsDone g'
   next_done entry g g' s quiet d f = subst IsDone (sym f.after) (event_done entry.by.0 entry.epoch entry.what g f.graph s quiet d f.event)
 
-  still_done : (h : List Entry) (g g' : Graph) → IsSound z g → AllByRecursion (λ entry. is_pause entry.what ≡ false) h → IsDone g → Leads z g h g' → IsDone g'
+  still_done : (h : List Entry) (g g' : Graph) → IsSound z g → AllByRecursion (λ entry. is_pause entry.what ≡ false) h → IsDone g → Leads z g h g' →
+      IsDone g'
   still_done [] g g' s quiet d l = subst IsDone l d
   still_done (e ∷ h) g g' s quiet d l = still_done h l.0 g' (next_sound z e g l.0 s l.1) quiet.1 (next_done e g l.0 s quiet.0 d l.1) l.2
 

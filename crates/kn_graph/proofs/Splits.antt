@@ -42,4 +42,5 @@ replies_of-append h entry =
 
 pub births_of-append : (h : List Entry) (entry : Entry) →
     births_among (calls_of (h ++ entry ∷ [])) ≡ births_among (calls_of h) + births_among (call_in entry.what)
-births_of-append h entry = ap births_among (calls_of-append h entry) ∙ sum_by-append (λ c. cond (makes_object c) 1 0) (calls_of h) (call_in entry.what)
+births_of-append h entry = ap births_among (calls_of-append h entry)
+    ∙ sum_by-append (λ c. cond (makes_object c) 1 0) (calls_of h) (call_in entry.what)

@@ -29,6 +29,22 @@ endures o = record {
   finalized = λ p e. e;
 }
 
+-- an object with other fields, which keeps the flags that are set, its tie and its finalization
+written_endures : (o : Object) {points : ℕ → Option ℕ} {number : ℕ → ℕ} {tie : Option (ℕ × ℕ)} {released queued : Bool} {finalized : Option ℕ} →
+    (o.released ≡ true → released ≡ true) → (o.queued ≡ true → queued ≡ true) → ((t : ℕ × ℕ) → o.tie ≡ Some t → tie ≡ Some t) →
+    ((pauses : ℕ) → o.finalized ≡ Some pauses → finalized ≡ Some pauses) →
+    Endures o (record o { points = points; number = number; tie = tie; released = released; queued = queued; finalized = finalized })
+written_endures o released_stays queued_stays tie_stays finalized_stays = record {
+  address = refl;
+  layout = refl;
+  length = refl;
+  condemned = λ e. e;
+  released = released_stays;
+  queued = queued_stays;
+  tie = tie_stays;
+  finalized = finalized_stays;
+}
+
 endures_on : (a b c : Object) → Endures a b → Endures b c → Endures a c
 endures_on a b c p q = record {
   address = q.address ∙ p.address;
@@ -106,44 +122,19 @@ module _ (z : Ground) where
   change_succeeds thread g g' (of_count b c small a) = unchanged g (with_count g b c) refl refl refl refl
   change_succeeds thread g g' (of_points n f x o kind a) =
       let new : Object = record (g.object n) { points = upd (g.object n).points f x } in (
-        object_succeeds g n new (record {
-          address = refl;
-          layout = refl;
-          length = refl;
-          condemned = λ e. e;
-          released = λ e. e;
-          queued = λ e. e;
-          tie = λ t f. f;
-          finalized = λ p f. f;
-        }),
+        object_succeeds g n new (written_endures (g.object n) (λ e. e) (λ e. e) (λ t f. f) (λ p f. f)),
         object_condemns_none g n new refl,
       )
   change_succeeds thread g g' (of_number n f x o) =
       let new : Object = record (g.object n) { number = upd (g.object n).number f x } in (
-        object_succeeds g n new (record {
-          address = refl;
-          layout = refl;
-          length = refl;
-          condemned = λ e. e;
-          released = λ e. e;
-          queued = λ e. e;
-          tie = λ t f. f;
-          finalized = λ p f. f;
-        }),
+        object_succeeds g n new (written_endures (g.object n) (λ e. e) (λ e. e) (λ t f. f) (λ p f. f)),
         object_condemns_none g n new refl,
       )
   change_succeeds thread g g' (of_tie n c k o e) =
       let new : Object = record (g.object n) { tie = Some (c, k) } in (
-        object_succeeds g n new (record {
-          address = refl;
-          layout = refl;
-          length = refl;
-          condemned = λ e. e;
-          released = λ e. e;
-          queued = λ e. e;
-          tie = λ t f. let h : ◌≡◌ {A = Option (ℕ × ℕ)} None (Some t) = sym e ∙ f in absurd (cc);
-          finalized = λ p f. f;
-        }),
+        object_succeeds g n new (written_endures (g.object n) (λ e. e) (λ e. e)
+            (λ t f. let h : ◌≡◌ {A = Option (ℕ × ℕ)} None (Some t) = sym e ∙ f in absurd (cc))
+            (λ p f. f)),
         object_condemns_none g n new refl,
       )
   change_succeeds thread g g' (of_birth r address layout fields small laid_out legal) =
@@ -197,42 +188,17 @@ module _ (z : Ground) where
     event_succeeds by epoch (events.Released a) g' f =
         let n = f.1.object in
         subst (Succeeds g) (sym f.1.after) (object_succeeds g n (record (g.object n) { released = true })
-        (record {
-          address = refl;
-          layout = refl;
-          length = refl;
-          condemned = λ e. e;
-          released = λ e. refl;
-          queued = λ e. e;
-          tie = λ t f. f;
-          finalized = λ p f. f;
-        }))
+        (written_endures (g.object n) (λ e. refl) (λ e. e) (λ t f. f) (λ p f. f)))
     event_succeeds by epoch (events.Queued a) g' f =
         let n = f.1.object in
         subst (Succeeds g) (sym f.1.after) (object_succeeds g n (record (g.object n) { queued = true })
-        (record {
-          address = refl;
-          layout = refl;
-          length = refl;
-          condemned = λ e. e;
-          released = λ e. e;
-          queued = λ e. refl;
-          tie = λ t f. f;
-          finalized = λ p f. f;
-        }))
+        (written_endures (g.object n) (λ e. e) (λ e. refl) (λ t f. f) (λ p f. f)))
     event_succeeds by epoch (events.Finalized a c k) g' f =
         let n = f.1.object in
         subst (Succeeds g) (sym f.1.after) (object_succeeds g n (record (g.object n) { finalized = Some g.paused })
-        (record {
-          address = refl;
-          layout = refl;
-          length = refl;
-          condemned = λ e. e;
-          released = λ e. e;
-          queued = λ e. e;
-          tie = λ t f. f;
-          finalized = λ p h. let e : ◌≡◌ {A = Option ℕ} None (Some p) = sym f.1.new ∙ h in absurd (cc);
-        }))
+        (written_endures (g.object n) (λ e. e) (λ e. e)
+        (λ t f. f)
+        (λ p h. let e : ◌≡◌ {A = Option ℕ} None (Some p) = sym f.1.new ∙ h in absurd (cc))))
     event_succeeds by epoch (events.Done e) g' f =
         subst (Succeeds g) (sym f.1.after) (record {
           born = omega arith;

@@ -7,7 +7,8 @@ use Rattle.kn_graph.specs.declared.calls.Call.TheVariants as call
 use Rattle.kn_graph.specs.declared.calls.Reply.{Reply}
 use Rattle.kn_graph.specs.declared.calls.Reply.TheVariants as replies
 use Rattle.kn_graph.specs.Ground.{Ground}
-use Rattle.kn_graph.specs.Graph.{Graph, shapes, with_local, with_global, with_stable, with_weak, with_back, with_count, with_points, with_number, with_tie, with_birth, newborn, cell_at, length_for, field_kind, IsLegalBirth}
+use Rattle.kn_graph.specs.Graph.{Graph, shapes, with_local, with_global, with_stable, with_weak, with_back, with_count, with_points, with_number}
+use Rattle.kn_graph.specs.Graph.{with_tie, with_birth, newborn, cell_at, length_for, field_kind, IsLegalBirth}
 
 -- what a call answers, and the graph after it
 pub record Answer : Type 0 where

@@ -1,5 +1,6 @@
 -- What holds of the graph after every legal history.
 use Rattle.std.specs.Prelude.{◌≡◌, ◌≢◌, ℕ, ◌+◌, ◌<◌, ◌≤◌, ◌⊎◌, Bool, true, false, Option, Some, None, length, slice_get}
+use Rattle.std.specs.Option.{IfSome}
 use Rattle.kn_base.specs.declared.heap.Sizes.{Sizes}
 use Rattle.kn_base.specs.Spans.{AreApart}
 use Rattle.kn_layout.specs.declared.layouts.FieldKind.TheVariants.{Ref as of_ref}
@@ -24,8 +25,7 @@ finalizations g n = finalization_of (g.object n)
 
 -- null, or an object that was born
 abbrev pub WasBorn : ℕ → Option ℕ → Type 0
-WasBorn born None = Unit {0}
-WasBorn born (Some n) = n < born
+WasBorn born value = IfSome value (λ n. n < born)
 
 -- null, or an object that was born and is not condemned
 abbrev pub Alive : ℕ → (ℕ → Shape) → Option ℕ → Type 0

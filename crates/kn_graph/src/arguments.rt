@@ -1,3 +1,5 @@
+use kn_base::{LOCALS, MOST_CLEANERS, MOST_ELEMENTS};
+
 /// The word that begins a call.
 #[derive(Clone, Copy)]
 pub enum CallWord {
@@ -41,3 +43,21 @@ pub enum Argument {
     Weak,
     Back,
 }
+
+/// The number of a local.
+pub const LOCAL: Argument = Argument::Number(LOCALS as u64 - 1);
+
+/// The number of a field.
+pub const FIELD: Argument = Argument::Number(65_535);
+
+/// The number of a cleaner.
+pub const CLEANER: Argument = Argument::Number(MOST_CLEANERS as u64 - 1);
+
+/// The number of an array's elements.
+pub const ELEMENTS: Argument = Argument::Number(MOST_ELEMENTS as u64);
+
+/// A number of 32 bits, for a cleaner.
+pub const SMALL_NUMBER: Argument = Argument::Number(u32::MAX as u64);
+
+/// A number of 64 bits.
+pub const ANY_NUMBER: Argument = Argument::Number(u64::MAX);

@@ -1,3 +1,6 @@
+ghost use Rattle.std.specs.Prelude.{◌≡◌, ◌↔◌, IsTrue};
+ghost use Rattle.kn_graph.specs.Variants.{number_in, variant_of};
+
 use std::fmt;
 
 /// One call of a script, with its arguments in the order of the script.
@@ -52,7 +55,7 @@ pub enum Call {
 }
 
 /// What a call answers.
-#[derive(Clone, Copy, PartialEq)]
+#[derive(Clone, Copy)]
 pub enum Reply {
     /// It was done.
     Ok,
@@ -90,6 +93,53 @@ pub enum Reply {
     Epoch(u32),
 }
 
+impl Reply {
+    /// The number of the variant, in the order above.
+    fn variant(&self) -> u8
+        ensures { result ≡ variant_of self.now }
+    {
+        match self {
+            Reply::Ok => 0,
+            Reply::Full => 1,
+            Reply::Nil => 2,
+            Reply::Yes => 3,
+            Reply::No => 4,
+            Reply::Ref => 5,
+            Reply::Null => 6,
+            Reply::NoField => 7,
+            Reply::WrongKind => 8,
+            Reply::Int(_) => 9,
+            Reply::Taken => 10,
+            Reply::Vacant => 11,
+            Reply::Nothing => 12,
+            Reply::Count(_) => 13,
+            Reply::Top => 14,
+            Reply::Zero => 15,
+            Reply::Already => 16,
+            Reply::Epoch(_) => 17,
+        }
+    }
+
+    /// The number that the reply tells, and 0 where it tells none.
+    fn number(&self) -> u64
+        ensures { result ≡ number_in self.now }
+    {
+        match *self {
+            Reply::Int(n) => n,
+            Reply::Count(n) => u64::from(n),
+            Reply::Epoch(e) => u64::from(e),
+            _ => 0,
+        }
+    }
+
+    /// Whether two replies are the same.
+    pub fn is_same(&self, other: &Reply) -> bool
+        ensures { IsTrue result ↔ (self.now ≡ other.now) }
+    {
+        self.variant() == other.variant() && self.number() == other.number()
+    }
+}
+
 impl fmt::Display for Reply {
     ghost use Rattle.std.specs.Prelude.{Some};
     ghost use Rattle.kn_graph.specs.Texts.{reply_text};
@@ -98,23 +148,23 @@ impl fmt::Display for Reply {
 
     fn fmt<W: fmt::Write>(&self, f: &mut fmt::Formatter<W>) -> fmt::Result {
         match self {
-            Reply::Ok => write!(f, "ok"),
-            Reply::Full => write!(f, "full"),
-            Reply::Nil => write!(f, "nil"),
-            Reply::Yes => write!(f, "yes"),
-            Reply::No => write!(f, "no"),
-            Reply::Ref => write!(f, "ref"),
-            Reply::Null => write!(f, "null"),
-            Reply::NoField => write!(f, "nofield"),
-            Reply::WrongKind => write!(f, "kind"),
+            Reply::Ok => f.write_str("ok"),
+            Reply::Full => f.write_str("full"),
+            Reply::Nil => f.write_str("nil"),
+            Reply::Yes => f.write_str("yes"),
+            Reply::No => f.write_str("no"),
+            Reply::Ref => f.write_str("ref"),
+            Reply::Null => f.write_str("null"),
+            Reply::NoField => f.write_str("nofield"),
+            Reply::WrongKind => f.write_str("kind"),
             Reply::Int(n) => write!(f, "int {n}"),
-            Reply::Taken => write!(f, "taken"),
-            Reply::Vacant => write!(f, "vacant"),
-            Reply::Nothing => write!(f, "none"),
+            Reply::Taken => f.write_str("taken"),
+            Reply::Vacant => f.write_str("vacant"),
+            Reply::Nothing => f.write_str("none"),
             Reply::Count(n) => write!(f, "count {n}"),
-            Reply::Top => write!(f, "top"),
-            Reply::Zero => write!(f, "zero"),
-            Reply::Already => write!(f, "already"),
+            Reply::Top => f.write_str("top"),
+            Reply::Zero => f.write_str("zero"),
+            Reply::Already => f.write_str("already"),
             Reply::Epoch(e) => write!(f, "epoch {e}"),
         }
     }

@@ -1,4 +1,5 @@
-ghost use Rattle.std.specs.Prelude.{◌≡◌, ◌+◌, ◌-◌, ◌^◌, ◌<◌, ◌≤◌, ◌++◌, length, vec_len, IsErr, IfSome, IfOk, OnOk, OnErr, IfErr};
+ghost use Rattle.std.specs.Prelude.{◌≡◌, ◌+◌, ◌-◌, ◌^◌, ◌<◌, ◌≤◌, ◌++◌, length, vec_len};
+ghost use Rattle.std.specs.Prelude.{IsErr, IfSome, IfOk, OnOk, OnErr, IfErr};
 ghost use Rattle.kn_io.specs.Counts.{NeverFalls, Rose};
 ghost use Rattle.kn_io.specs.Told.{GivesAtMost, GivesAll, Appends, AppendsPrefix};
 ghost use Rattle.kn_io.specs.Ends.{most_given, OnFailed, UnlessFailed, IfTooLong, PassesLimit};
@@ -52,7 +53,7 @@ fn keep(text: &mut Vec<u8>, piece: &[u8], limit: u32) -> Result<(), ReadEnd>
 /// The answer is `TooLong` where a byte past `limit` comes. Its line is the one that the bytes up
 /// to `limit` have reached: 1, and 1 more for each line feed among them. With each answer that is
 /// not Ok at most `limit` bytes were taken from the source, and with `TooLong` at most `BUFFER`
-/// more. The source was not called again behind a fault.
+/// more. An answer that is not `Failed` met no fault: the source's count of faults stayed.
 pub fn read_all<S: Source>(alloc: Global, source: &mut S, limit: u32) -> Result<Vec<u8>, ReadEnd>
     requires { limit < 2 ^ 32 - 1 }
     ensures all { IfOk result (λ text.
@@ -89,7 +90,7 @@ pub fn read_all<S: Source>(alloc: Global, source: &mut S, limit: u32) -> Result<
     }
 }
 
-/// Writes all bytes, and flushes. The sink is not called again behind a fault.
+/// Writes all bytes, and flushes. An answer of Ok met no fault: the sink's count of faults stayed.
 pub fn write_all<K: Sink>(sink: &mut K, bytes: &[u8]) -> Result<(), Failed>
     ensures all { OnOk result (Appends (K.held sink.old) (K.held sink.new) bytes.now) }
     ensures flushed { OnOk result (K.is_flushed sink.new) }

@@ -53,7 +53,7 @@ pub enum Layout {
     Array(FieldKind),
 }
 
-ghost use Rattle.kn_layout.specs.Layouts.{IsLayout, nth_kind, size_of};
+ghost use Rattle.kn_layout.specs.Layouts.{IsLayout, cell_size, nth_kind, size_of};
 
 impl Layout {
     /// An equal layout. An error is want of memory.
@@ -70,8 +70,16 @@ impl Layout {
     }
 }
 
-/// The words of a cell for an object of this layout: one, and one for each field or element, and
-/// at least 2 (`size_of` in `specs/Layouts.antt`). For a list of fields `length` is ignored.
+/// The words of a cell for so many fields or elements: one, and one for each, and at least 2
+/// (`cell_size` in `specs/Layouts.antt`).
+pub fn cell_size(fields: u32) -> u64
+    ensures { result ≡ cell_size fields }
+{
+    (1 + u64::from(fields)).max(2)
+}
+
+/// The words of a cell for an object of this layout (`size_of` in `specs/Layouts.antt`). For a list
+/// of fields `length` is ignored.
 pub fn cell_words(layout: &Layout, length: u32) -> u32
     requires layout_fits { IsLayout layout.now }
     requires length_fits { length ≤ 60000 }
@@ -81,7 +89,7 @@ pub fn cell_words(layout: &Layout, length: u32) -> u32
         Layout::Fields(kinds) => kinds.as_slice().len() as u32,
         Layout::Array(_) => length,
     };
-    (1 + fields).max(2)
+    cell_size(fields) as u32
 }
 
 /// The kind of field or element `i` of an object of this layout, or `None` where it has no such

@@ -1,5 +1,6 @@
 ghost use Rattle.std.specs.Prelude.{◌≡◌, ◌<◌, ◌≤◌, ◌^◌, ◌++◌, OnOk, IfOk, All, length, sum};
-ghost use Rattle.kn_schedule.specs.Schedules.{IsInFull, left_after, left_behind, rounds, threads_below, turn_of, turns_of, turns_taken};
+ghost use Rattle.kn_schedule.specs.Schedules.{IsInFull, rounds, threads_below, turns_of};
+ghost use Rattle.kn_schedule.specs.Left.{left_after, left_behind, turn_of, turns_taken};
 
 use std::alloc::{AllocError, Global};
 

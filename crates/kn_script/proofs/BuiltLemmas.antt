@@ -1,5 +1,6 @@
 -- Every call of a script has a word that is built.
-use Rattle.std.proofs.Common.{◌≡◌, ℕ, ◌-◌, zero, suc, Bool, true, false, Option, Some, None, List, [], ◌∷◌, ◌++◌, get_or, set, refl, sym, ◌∙◌, ap, subst}
+use Rattle.std.proofs.Common.{◌≡◌, ℕ, ◌-◌, zero, suc, Bool, true, false, Option, Some, None, List, [], ◌∷◌, ◌++◌, get_or, refl, sym, ◌∙◌, ap}
+use Rattle.std.proofs.Common.{subst}
 use Rattle.std.specs.Prelude.{replicate}
 use Rattle.std.specs.List.{AllByRecursion}
 use Rattle.kn_graph.specs.declared.calls.Call.{Call}
@@ -26,7 +27,8 @@ header_is : (b : Bool) (h : HeaderWord) (w : CallWord) → only_if b (Some (Head
 header_is true h w e = cc
 header_is false h w e = cc
 
-found_built : (built : Built) (c : Option CallWord) (h : Option HeaderWord) (w : CallWord) → if_built built c h ≡ Some (CallLine w) → has_call built w ≡ true
+found_built : (built : Built) (c : Option CallWord) (h : Option HeaderWord) (w : CallWord) → if_built built c h ≡ Some (CallLine w) →
+    has_call built w ≡ true
 found_built built (Some c) h w e = let is = call_is (has_call built c) c w e in subst (λ x. has_call built x ≡ true) is.1 is.0
 found_built built None (Some h) w e = absurd (header_is _ h w e)
 found_built built None None w e = cc
@@ -47,13 +49,15 @@ one_more : {X : Type 0} (P : X → Type 0) (xs : List X) (x : X) → AllByRecurs
 one_more P [] x all one = (one, tt)
 one_more P (y ∷ ys) x all one = (all.0, one_more P ys x all.1 one)
 
-call_built : (p : Progress) (made : Call) → IsBuilt p.built made → AreBuilt p.built p.threads → AreBuilt p.built (with_call (p.next - 1) made p.threads)
+call_built : (p : Progress) (made : Call) → IsBuilt p.built made → AreBuilt p.built p.threads →
+    AreBuilt p.built (with_call (p.next - 1) made p.threads)
 call_built p made is all =
     let old = get_or p.threads (p.next - 1) [] in
     All-set (AllByRecursion (IsBuilt p.built)) p.threads (p.next - 1) (old ++ made ∷ []) all
     (one_more (IsBuilt p.built) old made (All-at (AllByRecursion (IsBuilt p.built)) p.threads (p.next - 1) [] all tt) is)
 
-header_built : (p : Progress) (h : HeaderWord) (words : List (List ℕ)) → AreBuilt p.built p.threads → AreBuilt (behind_header p h words).built (behind_header p h words).threads
+header_built : (p : Progress) (h : HeaderWord) (words : List (List ℕ)) → AreBuilt p.built p.threads →
+    AreBuilt (behind_header p h words).built (behind_header p h words).threads
 header_built p header.Threads words all = no_calls p.built _
 header_built p h words all = all
 

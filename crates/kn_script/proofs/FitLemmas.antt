@@ -2,6 +2,7 @@
 use Rattle.std.proofs.Common.{◌≡◌, ℕ, zero, suc, ◌+◌, ◌<◌, ◌≤◌, nat_lt, nat_le, Bool, true, false, cond, Option, Some, None, List, []}
 use Rattle.std.proofs.Common.{◌∷◌, length, get_or, slice_get, refl, ap, sym, ◌∙◌, subst, arith}
 use Rattle.std.proofs.lemmas.Bool.{ltb-false, leb-false, le-leb, or_parts}
+use Rattle.kn_base.specs.Sizes.{NamesFit}
 use Rattle.kn_layout.specs.declared.layouts.Layout.{Layout}
 use Rattle.kn_layout.specs.declared.layouts.Layout.TheVariants.{Fields, Array}
 use Rattle.kn_graph.specs.declared.arguments.CallWord.{CallWord}
@@ -21,43 +22,31 @@ use Rattle.kn_script.specs.declared.forms.Wanted.{Wanted}
 use Rattle.kn_script.specs.declared.forms.Wanted.TheVariants as wanted
 use Rattle.kn_script.specs.Numbers.{number_of, value_of, value_at}
 use Rattle.kn_script.specs.Forms.{form_of, form_of_arguments, if_argument, nth_wanted, wanted_at, heap_places_of, names_places_of}
-use Rattle.kn_script.specs.Scripts.{Progress}
-use Rattle.kn_script.specs.Progress.{values_of, call_of}
-use Rattle.kn_script.specs.Reasons.{when, is_no_thread, is_no_name, if_fields, if_array, is_misfit}
-use Rattle.kn_script.specs.Reasons.{number_reason, of_number, reason_at, word_reasons, is_too_much, is_other_count, is_early, is_late}
-use Rattle.kn_script.specs.Reasons.{reasons_of}
+use Rattle.kn_script.specs.Scripts.{Progress, ground_of}
+use Rattle.kn_script.specs.Progress.{values_of, call_of, script_of}
+use Rattle.kn_script.specs.Reasons.{when, is_no_thread, is_no_name, if_fields, if_array, is_misfit, MeetsNone}
+use Rattle.kn_script.specs.Reasons.{number_reason, of_number, reason_at, word_reasons}
 use Rattle.kn_script.specs.Good.{ground_with}
-use Rattle.kn_script.specs.Readings.{AreWithin, IsSmall, AllSmall}
-use Rattle.kn_script.proofs.ReasonLemmas.{and_then-none, and_then-nothing, when-none, outside-not, and-not}
+use Rattle.kn_script.specs.Readings.{FitsAt, AreWithin, IsSmall, AllSmall}
+use Rattle.kn_script.proofs.ReasonLemmas.{and_then-nothing, when-none, outside-not, and-not}
 
 -- a line with a first word that meets no reason
-pub record MeetsNone (p : Progress) (first : FirstWord) (words : List (List ℕ)) : Type 0 where
-  pub at : word_reasons p (form_of first words) 0 words ≡ []
-  pub room : is_too_much p first words ≡ false
-  pub count : is_other_count (form_of first words) words ≡ false
-  pub come : is_early p (form_of first words) ≡ false
-  pub in_time : is_late p (form_of first words) ≡ false
-
-pub MeetsNone-from : (p : Progress) (first : FirstWord) (words : List (List ℕ)) → reasons_of p first words ≡ [] → MeetsNone p first words
-MeetsNone-from p first words none =
-    let room = and_then-none _ _ _ none in
-    let count = and_then-none _ _ _ room.1 in
-    let come = and_then-none _ _ _ count.1 in
-    let in_time = and_then-none _ _ _ come.1 in
-    record { at = in_time.1; room = room.0; count = count.0; come = come.0; in_time = in_time.0 }
-
-pub MeetsNone-count : (p : Progress) (first : FirstWord) (words : List (List ℕ)) → MeetsNone p first words → ((form_of first words).least ≤ length words) × (length words ≤ (form_of first words).most)
+pub MeetsNone-count : (p : Progress) (first : FirstWord) (words : List (List ℕ)) → MeetsNone p first words →
+    ((form_of first words).least ≤ length words) × (length words ≤ (form_of first words).most)
 MeetsNone-count p first words none = outside-not _ _ _ none.count
 
 -- no word meets a reason at its place
-pub word_reasons-at : (p : Progress) (form : Form) (place k : ℕ) (words : List (List ℕ)) → word_reasons p form place words ≡ [] → k < length words → reason_at p (wanted_at form (place + k)) (get_or words k []) ≡ None
+pub word_reasons-at : (p : Progress) (form : Form) (place k : ℕ) (words : List (List ℕ)) → word_reasons p form place words ≡ [] → k < length words →
+    reason_at p (wanted_at form (place + k)) (get_or words k []) ≡ None
 word_reasons-at p form place k [] none h = absurd (omega arith)
 word_reasons-at p form place zero (w ∷ words) none h =
     let same : place ≡ place + zero = omega arith in
     subst (λ n. reason_at p (wanted_at form n) w ≡ None) same (and_then-nothing (reason_at p (wanted_at form place) w) _ none).0
 word_reasons-at p form place (suc k) (w ∷ words) none h =
     let same : place + 1 + k ≡ place + suc k = omega arith in
-    subst (λ n. reason_at p (wanted_at form n) (get_or words k []) ≡ None) same (word_reasons-at p form (place + 1) k words (and_then-nothing (reason_at p (wanted_at form place) w) _ none).1 (omega arith))
+    let rest = (and_then-nothing (reason_at p (wanted_at form place) w) _ none).1 in
+    subst (λ n. reason_at p (wanted_at form n) (get_or words k []) ≡ None) same
+    (word_reasons-at p form (place + 1) k words rest (omega arith))
 
 -- a word where a number is wanted
 number-none : (reason : ℕ → Option Why) (o : Option ℕ) → of_number reason o ≡ None → (n : ℕ) × (o ≡ Some n) × (reason n ≡ None)
@@ -68,16 +57,20 @@ value-is : (w : List ℕ) (n : ℕ) → number_of w ≡ Some n → value_of w �
 value-is w n e = rw e refl
 
 -- a word at its place, where a number is wanted
-pub wanted-number : (p : Progress) (first : FirstWord) (words : List (List ℕ)) (k : ℕ) (want : Wanted) → MeetsNone p first words → k < length words → wanted_at (form_of first words) k ≡ want → ((w : List ℕ) → reason_at p want w ≡ of_number (number_reason p want) (number_of w)) → number_reason p want (value_at words k) ≡ None
+pub wanted-number : (p : Progress) (first : FirstWord) (words : List (List ℕ)) (k : ℕ) (want : Wanted) → MeetsNone p first words → k < length words →
+    wanted_at (form_of first words) k ≡ want → ((w : List ℕ) → reason_at p want w ≡ of_number (number_reason p want) (number_of w)) →
+    number_reason p want (value_at words k) ≡ None
 wanted-number p first words k want none below is numeric =
     let same : 0 + k ≡ k = omega arith in
-    let here = word_reasons-at p (form_of first words) 0 k words none.at below in
-    let at : reason_at p want (get_or words k []) ≡ None = subst (λ q. reason_at p q (get_or words k []) ≡ None) (ap (λ n. wanted_at (form_of first words) n) same ∙ is) here in
+    let here = word_reasons-at p (form_of first words) 0 k words none.places below in
+    let wanted = ap (λ n. wanted_at (form_of first words) n) same ∙ is in
+    let at : reason_at p want (get_or words k []) ≡ None = subst (λ q. reason_at p q (get_or words k []) ≡ None) wanted here in
     let n = number-none (number_reason p want) (number_of (get_or words k [])) (sym (numeric (get_or words k [])) ∙ at) in
     subst (λ v. number_reason p want v ≡ None) (sym (value-is (get_or words k []) n.0 n.1)) n.2
 
 pub name-there : (p : Progress) (count n : ℕ) → 3 ≤ p.stage → is_no_name p count n ≡ false → n < count
-name-there p count n closed h = leb-false count n (and-not (nat_le 2 p.stage) (nat_le count n) (le-leb 2 p.stage (omega arith)) h)
+name-there p count n closed h =
+    leb-false count n (and-not (nat_le 2 p.stage) (nat_le count n) (le-leb 2 p.stage (omega arith)) h)
 
 -- a number that is no misfit fits its argument
 misfit-not : (p : Progress) (a : Argument) (n : ℕ) → 3 ≤ p.stage → is_misfit p a n ≡ false → Fits (ground_with p.names p.layouts) a n
@@ -111,25 +104,24 @@ wanted-argument arguments (suc zero) h = refl
 wanted-argument arguments (suc (suc zero)) h = refl
 wanted-argument arguments (suc (suc (suc k))) h = absurd (omega (arith, h))
 
--- a number fits the argument at its place
-abbrev FitsAt : Ground → Option Argument → ℕ → Type 0
-FitsAt z None n = ⊥
-FitsAt z (Some a) n = Fits z a n
-
 get-there : {X : Type 0} (xs : List X) (k : ℕ) → k < length xs → (x : X) × (slice_get xs k ≡ Some x)
 get-there [] k h = absurd (omega (arith, h))
 get-there (x ∷ xs) zero h = (x, refl)
 get-there (x ∷ xs) (suc k) h = get-there xs k (omega arith)
 
-argument-fits : (p : Progress) (w : CallWord) (words : List (List ℕ)) → 3 ≤ p.stage → MeetsNone p (Call w) words → (k : ℕ) → k < length (arguments_of w) → FitsAt (ground_with p.names p.layouts) (slice_get (arguments_of w) k) (value_at words k)
+argument-fits : (p : Progress) (w : CallWord) (words : List (List ℕ)) → 3 ≤ p.stage → MeetsNone p (Call w) words → (k : ℕ) →
+    k < length (arguments_of w) → FitsAt (ground_with p.names p.layouts) (slice_get (arguments_of w) k) (value_at words k)
 argument-fits p w words closed none k below =
     let count = MeetsNone-count p (Call w) words none in
     let there = get-there (arguments_of w) k below in
-    let want : wanted_at (form_of (Call w) words) k ≡ wanted.Argument there.0 = wanted-argument (arguments_of w) k (omega (arith, below, few-arguments w)) ∙ ap (λ o. if_argument o) there.1 in
+    let want : wanted_at (form_of (Call w) words) k ≡ wanted.Argument there.0 =
+    wanted-argument (arguments_of w) k (omega (arith, below, few-arguments w)) ∙ ap (λ o. if_argument o) there.1 in
     let n = wanted-number p (Call w) words k (wanted.Argument there.0) none (omega (arith, below, count.0)) want (λ _. refl) in
-    subst (λ o. FitsAt (ground_with p.names p.layouts) o (value_at words k)) (sym there.1) (misfit-not p there.0 (value_at words k) closed (when-none _ Range n))
+    let fits = misfit-not p there.0 (value_at words k) closed (when-none _ Range n) in
+    subst (λ o. FitsAt (ground_with p.names p.layouts) o (value_at words k)) (sym there.1) fits
 
-in-range : (z : Ground) (w : CallWord) (words : List (List ℕ)) → ((k : ℕ) → k < length (arguments_of w) → FitsAt z (slice_get (arguments_of w) k) (value_at words k)) → IsInRange z (call_of w words)
+in-range : (z : Ground) (w : CallWord) (words : List (List ℕ)) →
+    ((k : ℕ) → k < length (arguments_of w) → FitsAt z (slice_get (arguments_of w) k) (value_at words k)) → IsInRange z (call_of w words)
 in-range z word.NewArray words h = (h 0 (omega arith), (h 1 (omega arith), (h 2 (omega arith), tt)))
 in-range z word.Get words h = (h 0 (omega arith), (h 1 (omega arith), (h 2 (omega arith), tt)))
 in-range z word.Set words h = (h 0 (omega arith), (h 1 (omega arith), (h 2 (omega arith), tt)))
@@ -142,8 +134,10 @@ in-range z word.Release words h = (h 0 (omega arith), tt)
 in-range z word.Collect words h = tt
 in-range z _ words h = (h 0 (omega arith), (h 1 (omega arith), tt))
 
-pub call-in_range : (p : Progress) (w : CallWord) (words : List (List ℕ)) → 3 ≤ p.stage → MeetsNone p (Call w) words → IsInRange (ground_with p.names p.layouts) (call_of w words)
-call-in_range p w words closed none = in-range (ground_with p.names p.layouts) w words (argument-fits p w words closed none)
+pub call-in_range : (p : Progress) (w : CallWord) (words : List (List ℕ)) → 3 ≤ p.stage → MeetsNone p (Call w) words →
+    IsInRange (ground_with p.names p.layouts) (call_of w words)
+call-in_range p w words closed none =
+    in-range (ground_with p.names p.layouts) w words (argument-fits p w words closed none)
 
 -- numbers that fit their arguments are small
 layout-below : (layouts : List Layout) (n : ℕ) (Is : Option Layout → Type 0) → (Is None → ⊥) → Is (slice_get layouts n) → n < length layouts
@@ -151,92 +145,82 @@ layout-below [] n Is none h = absurd (none h)
 layout-below (x ∷ xs) zero Is none h = omega arith
 layout-below (x ∷ xs) (suc n) Is none h = omega (arith, layout-below xs n Is none h)
 
--- at most so many names and layouts
-pub record IsFew (z : Ground) : Type 0 where
-  pub layouts : length z.layouts ≤ 64
-  pub globals : z.sizes.globals ≤ 64
-  pub stable : z.sizes.stable ≤ 64
-  pub weak : z.sizes.weak ≤ 64
-  pub back : z.sizes.back ≤ 64
+fits-small : (z : Ground) (a : Argument) (n : ℕ) → NamesFit z.sizes → length z.layouts ≤ 64 → Fits z a n → IsSmall a n
+fits-small z (argument.Number greatest) n names few h = h
+fits-small z argument.FieldsLayout n names few h = omega (arith, few, layout-below z.layouts n IsFieldsLayout (λ x. x) h)
+fits-small z argument.ArrayLayout n names few h = omega (arith, few, layout-below z.layouts n IsArrayLayout (λ x. x) h)
+fits-small z argument.Global n names few h = omega (arith, names.globals, h)
+fits-small z argument.Stable n names few h = omega (arith, names.stable, h)
+fits-small z argument.Weak n names few h = omega (arith, names.weak, h)
+fits-small z argument.Back n names few h = omega (arith, names.back, h)
 
-fits-small : (z : Ground) (a : Argument) (n : ℕ) → IsFew z → Fits z a n → IsSmall a n
-fits-small z (argument.Number greatest) n few h = h
-fits-small z argument.FieldsLayout n few h = omega (arith, few.layouts, layout-below z.layouts n IsFieldsLayout (λ x. x) h)
-fits-small z argument.ArrayLayout n few h = omega (arith, few.layouts, layout-below z.layouts n IsArrayLayout (λ x. x) h)
-fits-small z argument.Global n few h = omega (arith, few.globals, h)
-fits-small z argument.Stable n few h = omega (arith, few.stable, h)
-fits-small z argument.Weak n few h = omega (arith, few.weak, h)
-fits-small z argument.Back n few h = omega (arith, few.back, h)
+pub fit-small : (z : Ground) (arguments : List Argument) (ns : List ℕ) → NamesFit z.sizes → length z.layouts ≤ 64 →
+    AllFit z arguments ns → AllSmall arguments ns
+fit-small z [] ns names few all = tt
+fit-small z (a ∷ arguments) [] names few all = absurd all
+fit-small z (a ∷ arguments) (n ∷ ns) names few all =
+    (fits-small z a n names few all.0, fit-small z arguments ns names few all.1)
 
-pub fit-small : (z : Ground) (arguments : List Argument) (ns : List ℕ) → IsFew z → AllFit z arguments ns → AllSmall arguments ns
-fit-small z [] ns few all = tt
-fit-small z (a ∷ arguments) [] few all = absurd all
-fit-small z (a ∷ arguments) (n ∷ ns) few all = (fits-small z a n few all.0, fit-small z arguments ns few all.1)
+-- numbers that fit on the names and layouts fit on the ground of the script
+fits-script : (p : Progress) (a : Argument) (n : ℕ) → Fits (ground_with p.names p.layouts) a n → Fits (ground_of (script_of p)) a n
+fits-script p (argument.Number greatest) n h = h
+fits-script p _ n h = h
 
--- numbers that fit on one ground fit on another with the same names and layouts
-fits-same : (y z : Ground) (a : Argument) (n : ℕ) → y.layouts ≡ z.layouts → y.sizes.globals ≡ z.sizes.globals → y.sizes.stable ≡ z.sizes.stable → y.sizes.weak ≡ z.sizes.weak → y.sizes.back ≡ z.sizes.back → Fits y a n → Fits z a n
-fits-same y z (argument.Number greatest) n layouts globals stable weak back h = h
-fits-same y z argument.FieldsLayout n layouts globals stable weak back h = subst (λ ls. IsFieldsLayout (slice_get ls n)) layouts h
-fits-same y z argument.ArrayLayout n layouts globals stable weak back h = subst (λ ls. IsArrayLayout (slice_get ls n)) layouts h
-fits-same y z argument.Global n layouts globals stable weak back h = subst (λ k. n < k) globals h
-fits-same y z argument.Stable n layouts globals stable weak back h = subst (λ k. n < k) stable h
-fits-same y z argument.Weak n layouts globals stable weak back h = subst (λ k. n < k) weak h
-fits-same y z argument.Back n layouts globals stable weak back h = subst (λ k. n < k) back h
+pub all-script : (p : Progress) (arguments : List Argument) (ns : List ℕ) → AllFit (ground_with p.names p.layouts) arguments ns →
+    AllFit (ground_of (script_of p)) arguments ns
+all-script p [] [] all = tt
+all-script p [] (n ∷ ns) all = absurd all
+all-script p (a ∷ arguments) [] all = absurd all
+all-script p (a ∷ arguments) (n ∷ ns) all = (fits-script p a n all.0, all-script p arguments ns all.1)
 
-pub all-same : (y z : Ground) (arguments : List Argument) (ns : List ℕ) → y.layouts ≡ z.layouts → y.sizes.globals ≡ z.sizes.globals → y.sizes.stable ≡ z.sizes.stable → y.sizes.weak ≡ z.sizes.weak → y.sizes.back ≡ z.sizes.back → AllFit y arguments ns → AllFit z arguments ns
-all-same y z [] [] layouts globals stable weak back all = tt
-all-same y z [] (n ∷ ns) layouts globals stable weak back all = absurd all
-all-same y z (a ∷ arguments) [] layouts globals stable weak back all = absurd all
-all-same y z (a ∷ arguments) (n ∷ ns) layouts globals stable weak back all = (fits-same y z a n layouts globals stable weak back all.0, all-same y z arguments ns layouts globals stable weak back all.1)
-
-pub MeetsNone-number : (p : Progress) (h : HeaderWord) (words : List (List ℕ)) (k least greatest : ℕ) → MeetsNone p (Header h) words → k < length words → wanted_at (form_of (Header h) words) k ≡ wanted.Number least greatest → (least ≤ value_at words k) × (value_at words k ≤ greatest)
+pub MeetsNone-number : (p : Progress) (h : HeaderWord) (words : List (List ℕ)) (k least greatest : ℕ) → MeetsNone p (Header h) words →
+    k < length words → wanted_at (form_of (Header h) words) k ≡ wanted.Number least greatest →
+    (least ≤ value_at words k) × (value_at words k ≤ greatest)
 MeetsNone-number p h words k least greatest none below is =
     outside-not least greatest _ (when-none _ Range (wanted-number p (Header h) words k (wanted.Number least greatest) none below is (λ _. refl)))
 
-pub MeetsNone-thread : (p : Progress) (words : List (List ℕ)) → MeetsNone p (Header header.Thread) words → 0 < length words → 3 ≤ p.stage → value_at words 0 < length p.threads
-MeetsNone-thread p words none h closed = there (is_no_thread p (value_at words 0)) refl (wanted-number p (Header header.Thread) words 0 wanted.Thread none h refl (λ _. refl))
+pub MeetsNone-thread : (p : Progress) (words : List (List ℕ)) → MeetsNone p (Header header.Thread) words → 0 < length words → 3 ≤ p.stage →
+    value_at words 0 < length p.threads
+MeetsNone-thread p words none h closed =
+    there (is_no_thread p (value_at words 0)) refl
+    (wanted-number p (Header header.Thread) words 0 wanted.Thread none h refl (λ _. refl))
   where
-    there : (a : Bool) → is_no_thread p (value_at words 0) ≡ a → cond a (Some Range) (when (nat_lt (value_at words 0) p.next) Late) ≡ None → value_at words 0 < length p.threads
+    there : (a : Bool) → is_no_thread p (value_at words 0) ≡ a → cond a (Some Range) (when (nat_lt (value_at words 0) p.next) Late) ≡ None →
+        value_at words 0 < length p.threads
     there true ea e = cc
-    there false ea e = leb-false (length p.threads) (value_at words 0) (and-not (nat_le 3 p.stage) (nat_le (length p.threads) (value_at words 0)) (le-leb 3 p.stage closed) ea)
+    there false ea e =
+        leb-false (length p.threads) (value_at words 0)
+        (and-not (nat_le 3 p.stage) (nat_le (length p.threads) (value_at words 0)) (le-leb 3 p.stage closed) ea)
 
-pub MeetsNone-stage : (p : Progress) (first : FirstWord) (words : List (List ℕ)) → MeetsNone p first words → ((form_of first words).from ≤ p.stage) × (p.stage ≤ (form_of first words).until)
+pub MeetsNone-stage : (p : Progress) (first : FirstWord) (words : List (List ℕ)) → MeetsNone p first words →
+    ((form_of first words).from ≤ p.stage) × (p.stage ≤ (form_of first words).until)
 MeetsNone-stage p first words none = (ltb-false _ _ (or_parts _ _ none.come).0, ltb-false _ _ none.in_time)
 
 -- a call stands in a block
-pub MeetsNone-in_block : (p : Progress) (w : CallWord) (words : List (List ℕ)) → MeetsNone p (Call w) words → (1 ≤ p.next) × (3 ≤ p.stage) × (p.calls < 16384)
+pub MeetsNone-in_block : (p : Progress) (w : CallWord) (words : List (List ℕ)) → MeetsNone p (Call w) words →
+    (1 ≤ p.next) × (3 ≤ p.stage) × (p.calls < 16384)
 MeetsNone-in_block p w words none =
     let h = or_parts _ _ none.come in
     (ltb-false p.next 1 h.1, ltb-false p.stage 3 h.0, leb-false 16384 p.calls none.room)
 
-pub MeetsNone-heap : (p : Progress) (words : List (List ℕ)) → MeetsNone p (Header header.Heap) words → AreWithin heap_places_of (values_of words)
+pub MeetsNone-heap : (p : Progress) (words : List (List ℕ)) → MeetsNone p (Header header.Heap) words →
+    AreWithin heap_places_of (values_of words)
 MeetsNone-heap p words none =
-    let count = MeetsNone-count p (Header header.Heap) words none in (
-      (MeetsNone-number p header.Heap words 0 1 256 none (omega arith) refl).1,
-      (
-        (MeetsNone-number p header.Heap words 1 32 65536 none (omega arith) refl).1,
-        (
-          (MeetsNone-number p header.Heap words 2 0 256 none (omega arith) refl).1,
-          (
-            (MeetsNone-number p header.Heap words 3 32 65536 none (omega arith) refl).1,
-            (
-              (MeetsNone-number p header.Heap words 4 0 256 none (omega arith) refl).1,
-              ((MeetsNone-number p header.Heap words 5 2 65536 none (omega arith) refl).1, tt),
-            ),
-          ),
-        ),
-      ),
-    )
+    let count = MeetsNone-count p (Header header.Heap) words none in
+    let small = MeetsNone-number p header.Heap words 0 1 256 none (omega arith) refl in
+    let small_words = MeetsNone-number p header.Heap words 1 32 65536 none (omega arith) refl in
+    let large = MeetsNone-number p header.Heap words 2 0 256 none (omega arith) refl in
+    let large_words = MeetsNone-number p header.Heap words 3 32 65536 none (omega arith) refl in
+    let extra = MeetsNone-number p header.Heap words 4 0 256 none (omega arith) refl in
+    let extra_words = MeetsNone-number p header.Heap words 5 2 65536 none (omega arith) refl in
+    (small, (small_words, (large, (large_words, (extra, (extra_words, tt))))))
 
-pub MeetsNone-names : (p : Progress) (words : List (List ℕ)) → MeetsNone p (Header header.Names) words → AreWithin names_places_of (values_of words)
+pub MeetsNone-names : (p : Progress) (words : List (List ℕ)) → MeetsNone p (Header header.Names) words →
+    AreWithin names_places_of (values_of words)
 MeetsNone-names p words none =
-    let count = MeetsNone-count p (Header header.Names) words none in (
-      (MeetsNone-number p header.Names words 0 0 64 none (omega arith) refl).1,
-      (
-        (MeetsNone-number p header.Names words 1 0 64 none (omega arith) refl).1,
-        (
-          (MeetsNone-number p header.Names words 2 0 64 none (omega arith) refl).1,
-          ((MeetsNone-number p header.Names words 3 0 64 none (omega arith) refl).1, (tt, (tt, tt))),
-        ),
-      ),
-    )
+    let count = MeetsNone-count p (Header header.Names) words none in
+    let globals = MeetsNone-number p header.Names words 0 0 64 none (omega arith) refl in
+    let stable = MeetsNone-number p header.Names words 1 0 64 none (omega arith) refl in
+    let weak = MeetsNone-number p header.Names words 2 0 64 none (omega arith) refl in
+    let back = MeetsNone-number p header.Names words 3 0 64 none (omega arith) refl in
+    (globals, (stable, (weak, (back, (tt, (tt, tt))))))

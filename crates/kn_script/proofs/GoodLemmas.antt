@@ -1,6 +1,6 @@
--- A progress is sound between any two lines, and every text is of a good script.
+-- A progress is good between any two lines, and every text is of a good script.
 use Rattle.std.proofs.Common.{◌≡◌, ℕ, zero, suc, ◌+◌, ◌*◌, ◌<◌, ◌≤◌, ◌-◌, nat_le, nat_lt, not, ◌&&◌, ◌||◌, Bool, true, false, Option, Some, None}
-use Rattle.std.proofs.Common.{List, [], ◌∷◌, ◌++◌, length, get_or, set, replicate, cond, filter_map, sum_by, count_by, bytes_eq, codes, length-append}
+use Rattle.std.proofs.Common.{List, [], ◌∷◌, ◌++◌, length, get_or, set, replicate, cond, filter_map, sum_by, bytes_eq, codes, length-append}
 use Rattle.std.proofs.Common.{length-set, refl, ap, sym, ◌∙◌, subst, arith}
 use Rattle.std.specs.List.{AllByRecursion}
 use Rattle.std.proofs.Math.Nat.{mul-le-mul_left}
@@ -8,7 +8,6 @@ use Rattle.std.proofs.lemmas.Bool.{ltb-false, leb-false, le-leb, or_parts, not-f
 use Rattle.std.proofs.lemmas.List.{length-replicate}
 use Rattle.std.proofs.lemmas.List.Sums.{sum_by-cons, sum_by-set, count_by-le-length}
 use Rattle.std.proofs.lemmas.Slice.Eq.{bytes_eq-Decides}
-use Rattle.kn_base.specs.declared.heap.Sizes.{Sizes}
 use Rattle.kn_base.specs.Sizes.{FramesFit, ThreadsFit}
 use Rattle.kn_layout.specs.declared.layouts.FieldKind.{FieldKind}
 use Rattle.kn_layout.specs.declared.layouts.Layout.TheVariants.{Fields}
@@ -17,6 +16,7 @@ use Rattle.kn_graph.specs.declared.arguments.CallWord.{CallWord}
 use Rattle.kn_graph.specs.declared.calls.Call.{Call as Made}
 use Rattle.kn_graph.specs.Ground.{Ground}
 use Rattle.kn_graph.specs.Arguments.{arguments_of, word_of, numbers_of, IsInRange}
+use Rattle.kn_graph.specs.Counts.{makes_object, births_among}
 use Rattle.kn_script.specs.declared.faults.Why.TheVariants.{Word}
 use Rattle.kn_script.specs.declared.built.Built.{Built}
 use Rattle.kn_script.specs.declared.built.HeaderWord.{HeaderWord}
@@ -29,20 +29,19 @@ use Rattle.kn_script.specs.Lines.{Numbered}
 use Rattle.kn_script.specs.Numbers.{value_at}
 use Rattle.kn_script.specs.Orders.{order_of}
 use Rattle.kn_script.specs.Forms.{line_form_of, open_form_of, array_places_of}
-use Rattle.kn_script.specs.Scripts.{Scripted, Progress, ground_of, is_birth}
+use Rattle.kn_script.specs.Scripts.{Scripted, Progress}
 use Rattle.kn_script.specs.Progress.{start, behind, script_of, values_of, frames_from, call_of, kind_of, layout_of, array_from}
-use Rattle.kn_script.specs.Reasons.{reason_at, word_reasons, is_late}
-use Rattle.kn_script.specs.Grammar.{Takes, Reads, IsText}
-use Rattle.kn_script.specs.Good.{IsOrderWord, IsGoodScript, IsSound, AreThreads, AreCalls, AreOrderWords, ground_with, sizes_of_frames}
+use Rattle.kn_script.specs.Reasons.{reason_at, word_reasons, is_long_layout, is_late, MeetsNone}
+use Rattle.kn_script.specs.Grammar.{Takes, Reads}
+use Rattle.kn_script.specs.Laws.{TextsAreGood}
+use Rattle.kn_script.specs.Good.{IsOrderWord, IsGoodScript, IsGoodProgress, AreThreads, AreCalls, AreOrderWords, ground_with, sizes_of_frames}
 use Rattle.kn_script.specs.Readings.{IsSmallCall}
 use Rattle.kn_script.proofs.ReasonLemmas.{and_then-nothing, when-none, and-not}
 use Rattle.kn_script.proofs.OrderLemmas.{orders-fit, orders-good}
 use Rattle.kn_script.proofs.SizeLemmas.{counts-length, counts-past, counts-less, counts-sum}
-use Rattle.kn_script.proofs.FitLemmas.{MeetsNone, MeetsNone-count, MeetsNone-stage, MeetsNone-number, MeetsNone-thread, MeetsNone-in_block, IsFew}
-use Rattle.kn_script.proofs.FitLemmas.{call-in_range, fit-small, all-same}
-
-Takes-meets : (p q : Progress) (line : Numbered) (takes : Takes p line q) → MeetsNone p takes.word line.arguments
-Takes-meets p q line takes = record { at = takes.words; room = takes.room; count = takes.count; come = takes.come; in_time = takes.in_time }
+use Rattle.kn_script.proofs.FitLemmas.{MeetsNone-count, MeetsNone-stage, MeetsNone-number, MeetsNone-thread, MeetsNone-in_block, MeetsNone-heap}
+use Rattle.kn_script.proofs.FitLemmas.{MeetsNone-names}
+use Rattle.kn_script.proofs.FitLemmas.{call-in_range, fit-small, all-script}
 
 -- lists of things of one kind
 pub All-set : {X : Type 0} (P : X → Type 0) (xs : List X) (i : ℕ) (y : X) → AllByRecursion P xs → P y → AllByRecursion P (set xs i y)
@@ -75,26 +74,25 @@ sum-replicate zero = refl
 sum-replicate (suc n) = omega (arith, sum_by-cons {X = List Made} length [] (replicate n []), sum-replicate n)
 
 -- frames within the limits
-heap-fits : (p : Progress) (words : List (List ℕ)) → MeetsNone p (Header header.Heap) words → FramesFit (sizes_of_frames (frames_from (values_of words)))
+heap-fits : (p : Progress) (words : List (List ℕ)) → MeetsNone p (Header header.Heap) words →
+    FramesFit (sizes_of_frames (frames_from (values_of words)))
 heap-fits p words none =
     let count = MeetsNone-count p (Header header.Heap) words none in
-    let a = MeetsNone-number p header.Heap words 0 1 256 none (omega arith) refl in
-    let b = MeetsNone-number p header.Heap words 1 32 65536 none (omega arith) refl in
-    let c = MeetsNone-number p header.Heap words 2 0 256 none (omega arith) refl in
-    let d = MeetsNone-number p header.Heap words 3 32 65536 none (omega arith) refl in
-    let e = MeetsNone-number p header.Heap words 4 0 256 none (omega arith) refl in
-    let f = MeetsNone-number p header.Heap words 5 2 65536 none (omega arith) refl in
+    let within = MeetsNone-heap p words none in
+    let large = within.1.1 in
+    let extra = large.1.1 in
     let room = or_parts _ _ none.room in
     record {
-      small = a;
-      small_words = b;
-      large = c.1;
-      large_words = d;
-      extra = e.1;
-      extra_words = f;
-      frames = (omega (arith, a.0), ltb-false 256 _ (and-not (nat_le 5 (length words)) _ (le-leb 5 (length words) (omega arith)) room.0));
+      small = within.0;
+      small_words = within.1.0;
+      large = large.0.1;
+      large_words = large.1.0;
+      extra = extra.0.1;
+      extra_words = extra.1.0;
+      frames = (omega (arith, within.0.0), ltb-false 256 _ (and-not (nat_le 5 (length words)) _ (le-leb 5 (length words) (omega arith)) room.0));
       words = (
-        some-words (value_at words 0) (value_at words 1) (value_at words 2 * value_at words 3) (value_at words 4 * value_at words 5) a.0 b.0,
+        some-words (value_at words 0) (value_at words 1) (value_at words 2 * value_at words 3) (value_at words 4 * value_at words 5)
+            within.0.0 within.1.0.0,
         ltb-false 1000000 _ (and-not (nat_le 6 (length words)) _ (le-leb 6 (length words) (omega arith)) room.1),
       );
     }
@@ -102,16 +100,17 @@ heap-fits p words none =
     some-words : (small small_words large extra : ℕ) → 1 ≤ small → 32 ≤ small_words → 32 ≤ small * small_words + large + extra
     some-words small small_words large extra some wide = omega (arith, mul-le-mul_left small wide, some)
 
-frames-same : (y z : Sizes) → y.small ≡ z.small → y.small_words ≡ z.small_words → y.large ≡ z.large → y.large_words ≡ z.large_words → y.extra ≡ z.extra → y.extra_words ≡ z.extra_words → FramesFit y → FramesFit z
-frames-same y z a b c d e f fit = record {
-  small = rw (sym a) fit.small;
-  small_words = rw (sym b) fit.small_words;
-  large = rw (sym c) fit.large;
-  large_words = rw (sym d) fit.large_words;
-  extra = rw (sym e) fit.extra;
-  extra_words = rw (sym f) fit.extra_words;
-  frames = rw (sym a, sym c, sym e) fit.frames;
-  words = rw (sym a, sym b, sym c, sym d, sym e, sym f) fit.words;
+-- the frames of the script are those of the progress
+frames-script : (p : Progress) → FramesFit (sizes_of_frames p.frames) → FramesFit (script_of p).sizes
+frames-script p fit = record {
+  small = fit.small;
+  small_words = fit.small_words;
+  large = fit.large;
+  large_words = fit.large_words;
+  extra = fit.extra;
+  extra_words = fit.extra_words;
+  frames = fit.frames;
+  words = fit.words;
 }
 
 -- a layout line, of either form, stands before the threads line
@@ -140,15 +139,18 @@ shape-none p w e = at (bytes_eq w (codes "fields")) refl (when-none _ Word e)
     at false is h = ap kind_of ((bytes_eq-Decides w (codes "array")).0 (not-false _ h))
 
 shape-at : (p : Progress) (w : List ℕ) (words : List (List ℕ)) → MeetsNone p (Header header.Layout) (w ∷ words) → reason_at p wanted.Shape w ≡ None
-shape-at p w words none = at (bytes_eq w (codes "array")) none.at
+shape-at p w words none = at (bytes_eq w (codes "array")) none.places
   where
-    at : (b : Bool) → word_reasons p (cond b (line_form_of array_places_of 2 2 2) (open_form_of wanted.Shape wanted.Kind 2 2)) 0 (w ∷ words) ≡ [] → reason_at p wanted.Shape w ≡ None
+    at : (b : Bool) → word_reasons p (cond b (line_form_of array_places_of 2 2 2) (open_form_of wanted.Shape wanted.Kind 2 2)) 0 (w ∷ words) ≡ [] →
+        reason_at p wanted.Shape w ≡ None
     at true h = (and_then-nothing (reason_at p wanted.Shape w) _ h).0
     at false h = (and_then-nothing (reason_at p wanted.Shape w) _ h).0
 
-kinds-below : (p : Progress) (words : List (List ℕ)) → MeetsNone p (Header header.Layout) words → length words ≤ 65 → length (filter_map kind_of words) ≤ 64
+kinds-below : (p : Progress) (words : List (List ℕ)) → MeetsNone p (Header header.Layout) words → length words ≤ 65 →
+    length (filter_map kind_of words) ≤ 64
 kinds-below p [] none few = omega arith
-kinds-below p (w ∷ words) none few = rw (shape-none p w (shape-at p w words none)) (omega (arith, few, filter_map-few kind_of words))
+kinds-below p (w ∷ words) none few =
+    rw (shape-none p w (shape-at p w words none)) (omega (arith, few, filter_map-few kind_of words))
 
 layout-good : (p : Progress) (words : List (List ℕ)) → MeetsNone p (Header header.Layout) words → IsLayout (layout_of words)
 layout-good p words none = at (bytes_eq (get_or words 0 []) (codes "array")) (or_parts _ _ none.room).0
@@ -157,12 +159,14 @@ layout-good p words none = at (bytes_eq (get_or words 0 []) (codes "array")) (or
     of_array [] = tt
     of_array (kind ∷ kinds) = tt
 
-    at : (b : Bool) → (not b && nat_lt 65 (length words)) ≡ false → IsLayout (cond b (array_from (filter_map kind_of words)) (Fields (filter_map kind_of words)))
+    at : (b : Bool) → (not b && nat_lt 65 (length words)) ≡ false →
+        IsLayout (cond b (array_from (filter_map kind_of words)) (Fields (filter_map kind_of words)))
     at true h = of_array (filter_map kind_of words)
     at false h = kinds-below p words none (ltb-false 65 (length words) h)
 
 -- what stays where a line comes behind the threads line, or before an order line
-threads-later : (stage later next : ℕ) (threads : List (List Made)) → 3 ≤ stage → 3 ≤ later → AreThreads stage next threads → AreThreads later next threads
+threads-later : (stage later next : ℕ) (threads : List (List Made)) → 3 ≤ stage → 3 ≤ later → AreThreads stage next threads →
+    AreThreads later next threads
 threads-later stage later next threads closed still are = record {
   few = are.few;
   some = λ h. are.some closed;
@@ -170,7 +174,8 @@ threads-later stage later next threads closed still are = record {
   there = are.there;
 }
 
-threads-early : (stage later next : ℕ) (threads : List (List Made)) → stage < 3 → later < 3 → AreThreads stage next threads → AreThreads later next threads
+threads-early : (stage later next : ℕ) (threads : List (List Made)) → stage < 3 → later < 3 → AreThreads stage next threads →
+    AreThreads later next threads
 threads-early stage later next threads early still are = record {
   few = are.few;
   some = λ h. absurd (omega (arith, h, still));
@@ -178,7 +183,8 @@ threads-early stage later next threads early still are = record {
   there = are.there;
 }
 
-order-early : (stage later threads others : ℕ) (order : List OrderWord) → stage < 6 → AreOrderWords stage threads order → AreOrderWords later others order
+order-early : (stage later threads others : ℕ) (order : List OrderWord) → stage < 6 → AreOrderWords stage threads order →
+    AreOrderWords later others order
 order-early stage later threads others order early are = record {
   few = are.few;
   each = none-of _ order (are.none early);
@@ -186,11 +192,14 @@ order-early stage later threads others order early are = record {
 }
 
 -- without threads there are no calls
-no-calls : (y z : Ground) (stage next : ℕ) (threads : List (List Made)) (calls : ℕ) → stage < 3 → AreThreads stage next threads → AreCalls y threads calls → AreCalls z threads calls
-no-calls y z stage next threads calls early are old = record { in_range = none-of _ threads (are.none early); count = old.count; few = old.few }
+no-calls : (y z : Ground) (stage next : ℕ) (threads : List (List Made)) (calls : ℕ) → stage < 3 → AreThreads stage next threads →
+    AreCalls y threads calls → AreCalls z threads calls
+no-calls y z stage next threads calls early are old =
+    record { in_range = none-of _ threads (are.none early); count = old.count; few = old.few }
 
 -- a good line keeps it
-header-step : (p : Progress) (h : HeaderWord) (words : List (List ℕ)) → MeetsNone p (Header h) words → IsSound p → IsSound (behind p (Header h) words)
+header-step : (p : Progress) (h : HeaderWord) (words : List (List ℕ)) → MeetsNone p (Header h) words → IsGoodProgress p →
+    IsGoodProgress (behind p (Header h) words)
 header-step p header.Heap words none good =
     let stage = MeetsNone-stage p (Header header.Heap) words none in
     record {
@@ -204,14 +213,14 @@ header-step p header.Heap words none good =
     }
 header-step p header.Names words none good =
     let stage = MeetsNone-stage p (Header header.Names) words none in
-    let count = MeetsNone-count p (Header header.Names) words none in
+    let within = MeetsNone-names p words none in
     record {
       frames = λ h. good.frames stage.0;
       names = record {
-        globals = (MeetsNone-number p header.Names words 0 0 64 none (omega arith) refl).1;
-        stable = (MeetsNone-number p header.Names words 1 0 64 none (omega arith) refl).1;
-        weak = (MeetsNone-number p header.Names words 2 0 64 none (omega arith) refl).1;
-        back = (MeetsNone-number p header.Names words 3 0 64 none (omega arith) refl).1;
+        globals = within.0.1;
+        stable = within.1.0.1;
+        weak = within.1.1.0.1;
+        back = within.1.1.1.0.1;
       };
       layouts = good.layouts;
       turns = good.turns;
@@ -220,7 +229,7 @@ header-step p header.Names words none good =
       order = order-early p.stage 2 (length p.threads) (length p.threads) p.order (omega (arith, stage.1)) good.order;
     }
 header-step p header.Layout words none good =
-    let few : length p.layouts < 64 = leb-false 64 (length p.layouts) (or_parts _ _ none.room).1 in
+    let few : length p.layouts < 64 = leb-false 64 (length p.layouts) (or_parts (is_long_layout words) _ none.room).1 in
     record {
       frames = good.frames;
       names = good.names;
@@ -256,7 +265,7 @@ header-step p header.Threads words none good =
         count = sum-replicate (value_at words 0) ∙ sym calls;
         few = good.calls.few;
       };
-      order = order-early p.stage 3 (length p.threads) (length (replicate {A = List Made} (value_at words 0) [])) p.order (omega (arith, stage.1)) good.order;
+      order = order-early p.stage 3 (length p.threads) _ p.order (omega (arith, stage.1)) good.order;
     }
 header-step p header.Turns words none good =
     let stage = MeetsNone-stage p (Header header.Turns) words none in
@@ -291,7 +300,7 @@ header-step p header.Thread words none good =
 header-step p header.Order words none good =
     let stage = MeetsNone-stage p (Header header.Order) words none in
     let count = MeetsNone-count p (Header header.Order) words none in
-    let more = orders-good p.built (length p.threads) words (orders-fit p 0 words stage.0 none.at) in
+    let more = orders-good p.built (length p.threads) words (orders-fit p 0 words stage.0 none.places) in
     record {
       frames = λ h. good.frames (omega (arith, stage.0));
       names = good.names;
@@ -300,20 +309,26 @@ header-step p header.Order words none good =
       threads = threads-later p.stage 6 p.next p.threads stage.0 (omega arith) good.threads;
       calls = good.calls;
       order = record {
-        few = omega (arith, ltb-false 65536 (length p.order + length words) none.room, length-append p.order (filter_map (order_of p.built) words), filter_map-few (order_of p.built) words);
+        few = omega (
+          arith,
+          ltb-false 65536 (length p.order + length words) none.room,
+          length-append p.order (filter_map (order_of p.built) words),
+          filter_map-few (order_of p.built) words,
+        );
         each = All-append (IsOrderWord (length p.threads)) p.order (filter_map (order_of p.built) words) good.order.each more;
         none = λ h. absurd (omega (arith, h));
       };
     }
 
-call-step : (p : Progress) (w : CallWord) (words : List (List ℕ)) → MeetsNone p (Call w) words → IsSound p → IsSound (behind p (Call w) words)
+call-step : (p : Progress) (w : CallWord) (words : List (List ℕ)) → MeetsNone p (Call w) words → IsGoodProgress p →
+    IsGoodProgress (behind p (Call w) words)
 call-step p w words none good =
     let block = MeetsNone-in_block p w words none in
     let made = call_of w words in
     let z = ground_with p.names p.layouts in
     let old = get_or p.threads (p.next - 1) [] in
-    let new : AllByRecursion (IsInRange z) (old ++ made ∷ []) =
-    All-append (IsInRange z) old (made ∷ []) (All-at (AllByRecursion (IsInRange z)) p.threads (p.next - 1) [] good.calls.in_range tt) (call-in_range p w words block.1 none, tt) in
+    let before = All-at (AllByRecursion (IsInRange z)) p.threads (p.next - 1) [] good.calls.in_range tt in
+    let new = All-append (IsInRange z) old (made ∷ []) before (call-in_range p w words block.1 none, tt) in
     let same = length-set p.threads (p.next - 1) (old ++ made ∷ []) in
     record {
       frames = good.frames;
@@ -328,21 +343,27 @@ call-step p w words none good =
       };
       calls = record {
         in_range = All-set (AllByRecursion (IsInRange z)) p.threads (p.next - 1) (old ++ made ∷ []) good.calls.in_range new;
-        count = omega (arith, sum_by-set length p.threads (p.next - 1) (old ++ made ∷ []) [] (omega (arith, block.0, good.threads.there)), length-append old (made ∷ []), good.calls.count);
+        count = omega (
+          arith,
+          sum_by-set length p.threads (p.next - 1) (old ++ made ∷ []) [] (omega (arith, block.0, good.threads.there)),
+          length-append old (made ∷ []),
+          good.calls.count,
+        );
         few = omega (arith, block.2);
       };
       order = subst (λ n. AreOrderWords p.stage n p.order) (sym same) good.order;
     }
 
-step : (p : Progress) (first : FirstWord) (words : List (List ℕ)) → MeetsNone p first words → IsSound p → IsSound (behind p first words)
+step : (p : Progress) (first : FirstWord) (words : List (List ℕ)) → MeetsNone p first words → IsGoodProgress p → IsGoodProgress (behind p first words)
 step p (Header h) words none good = header-step p h words none good
 step p (Call w) words none good = call-step p w words none good
 
-pub Takes-sound : (p q : Progress) (line : Numbered) → IsSound p → Takes p line q → IsSound q
-Takes-sound p q line good takes = subst IsSound (sym takes.after) (step p takes.word line.arguments (Takes-meets p q line takes) good)
+pub Takes-good : (p q : Progress) (line : Numbered) → IsGoodProgress p → Takes p line q → IsGoodProgress q
+Takes-good p q line good takes =
+    subst IsGoodProgress (sym takes.after) (step p takes.word line.arguments takes.meets_none good)
 
-pub start-sound : (built : Built) → IsSound (start built)
-start-sound built = record {
+pub start-good : (built : Built) → IsGoodProgress (start built)
+start-good built = record {
   frames = λ h. absurd (omega (arith, h));
   names = record { globals = omega arith; stable = omega arith; weak = omega arith; back = omega arith };
   layouts = record { few = omega arith; each = tt };
@@ -352,20 +373,20 @@ start-sound built = record {
   order = record { few = omega arith; each = tt; none = λ h. refl };
 }
 
--- a sound progress with all required lines gives a good script
-threads-fit : (p : Progress) → IsSound p → 3 ≤ p.stage → ThreadsFit (script_of p).sizes
+-- a good progress with all required lines gives a good script
+threads-fit : (p : Progress) → IsGoodProgress p → 3 ≤ p.stage → ThreadsFit (script_of p).sizes
 threads-fit p good whole = record {
   threads = (good.threads.some whole, good.threads.few);
-  lists = (counts-length length 16 p.threads, counts-length (count_by is_birth) 16 p.threads);
+  lists = (counts-length length 16 p.threads, counts-length births_among 16 p.threads);
   calls = omega (arith, counts-sum length 16 p.threads good.threads.few, good.calls.count, good.calls.few);
-  births = counts-less (count_by is_birth) length (λ calls. count_by-le-length is_birth calls) 16 p.threads;
-  past = λ i h. (counts-past length 16 p.threads i h, counts-past (count_by is_birth) 16 p.threads i h);
+  births = counts-less births_among length (λ calls. count_by-le-length makes_object calls) 16 p.threads;
+  past = λ i h. (counts-past length 16 p.threads i h, counts-past births_among 16 p.threads i h);
 }
 
-script-good : (p : Progress) → IsSound p → 3 ≤ p.stage → IsGoodScript (script_of p)
+script-good : (p : Progress) → IsGoodProgress p → 3 ≤ p.stage → IsGoodScript (script_of p)
 script-good p good whole = record {
   sizes = record {
-    of_frames = frames-same (sizes_of_frames p.frames) (script_of p).sizes refl refl refl refl refl refl (good.frames (omega (arith, whole)));
+    of_frames = frames-script p (good.frames (omega (arith, whole)));
     of_names = record { globals = good.names.globals; stable = good.names.stable; weak = good.names.weak; back = good.names.back };
     of_threads = threads-fit p good whole;
   };
@@ -373,26 +394,24 @@ script-good p good whole = record {
   counts = record { calls = refl; births = refl };
   few_layouts = good.layouts.few;
   layouts = good.layouts.each;
-  calls = All-map _ _ p.threads (λ calls. All-map _ _ calls (λ call. same call)) good.calls.in_range;
+  calls = All-map _ _ p.threads (λ calls. All-map _ _ calls (λ call. all-script p (arguments_of (word_of call)) (numbers_of call)))
+      good.calls.in_range;
   turns = good.turns;
   few_order_words = good.order.few;
   order_words = good.order.each;
 }
-  where
-    same : (call : Made) → IsInRange (ground_with p.names p.layouts) call → IsInRange (ground_of (script_of p)) call
-    same call h = all-same (ground_with p.names p.layouts) (ground_of (script_of p)) (arguments_of (word_of call)) (numbers_of call) refl refl refl refl refl h
 
-reads-good : (p : Progress) (lines : List Numbered) (s : Scripted) → IsSound p → Reads p lines s → IsGoodScript s
+reads-good : (p : Progress) (lines : List Numbered) (s : Scripted) → IsGoodProgress p → Reads p lines s → IsGoodScript s
 reads-good p [] s good reads = subst IsGoodScript reads.1 (script-good p good reads.0)
-reads-good p (line ∷ lines) s good (q, takes, reads) = reads-good q lines s (Takes-sound p q line good takes) reads
+reads-good p (line ∷ lines) s good (q, takes, reads) = reads-good q lines s (Takes-good p q line good takes) reads
 
-pub texts_are_good : (built : Built) (s : Scripted) (bytes : List ℕ) → IsText built s bytes → IsGoodScript s
-texts_are_good built s bytes text = reads-good (start built) _ s (start-sound built) text.reads
+pub texts_are_good : (built : Built) → TextsAreGood built
+texts_are_good built s bytes text = reads-good (start built) _ s (start-good built) text.reads
 
 -- a call that meets no reason is small enough for its type
-pub call-small : (p : Progress) (w : CallWord) (words : List (List ℕ)) → IsSound p → MeetsNone p (Call w) words → IsSmallCall (call_of w words)
+pub call-small : (p : Progress) (w : CallWord) (words : List (List ℕ)) → IsGoodProgress p → MeetsNone p (Call w) words → IsSmallCall (call_of w words)
 call-small p w words good none =
     let made = call_of w words in
     let z = ground_with p.names p.layouts in
-    let few : IsFew z = record { layouts = good.layouts.few; globals = good.names.globals; stable = good.names.stable; weak = good.names.weak; back = good.names.back } in
-    fit-small z (arguments_of (word_of made)) (numbers_of made) few (call-in_range p w words (MeetsNone-in_block p w words none).1 none)
+    let fits = call-in_range p w words (MeetsNone-in_block p w words none).1 none in
+    fit-small z (arguments_of (word_of made)) (numbers_of made) good.names good.layouts.few fits

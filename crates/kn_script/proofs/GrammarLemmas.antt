@@ -1,5 +1,6 @@
 -- Lines are either a text or have a first bad line.
-use Rattle.std.proofs.Common.{◌≡◌, ◌⊎◌, inl, inr, ℕ, false, Option, Some, None, Result, Ok, Err, List, [], ◌∷◌, length, refl, ap, sym, ◌∙◌, subst, arith}
+use Rattle.std.proofs.Common.{◌≡◌, ◌⊎◌, inl, inr, ℕ, false, Option, Some, None, Result, Ok, Err, List, [], ◌∷◌, length, refl, ap, sym, ◌∙◌, subst}
+use Rattle.std.proofs.Common.{arith}
 use Rattle.std.proofs.lemmas.Option.{same_Some}
 use Rattle.std.proofs.lemmas.Bool.{cases_lt}
 use Rattle.kn_base.specs.declared.limits.TheConstants.{LONGEST_TEXT}
@@ -13,37 +14,33 @@ use Rattle.kn_script.specs.declared.built.Built.{Built}
 use Rattle.kn_script.specs.Built.{first_word_of}
 use Rattle.kn_script.specs.Scripts.{Scripted, Progress}
 use Rattle.kn_script.specs.Progress.{start, behind, script_of}
-use Rattle.kn_script.specs.Reasons.{reasons_of, if_known, reasons, first_of, IsAmong, Meets, IsFirst}
-use Rattle.kn_script.specs.Grammar.{Takes, Reads, IsBadAmong, IsText, IsBad, IfBad}
-use Rattle.kn_script.proofs.ReasonLemmas.{StandsFirst, first_of-none, first_of-some, and_then-none}
+use Rattle.kn_script.specs.Reasons.{reasons_of, if_known, reasons, first_of, IsAmong, IsFirst}
+use Rattle.kn_script.specs.Grammar.{Takes, Reads, IsBadAmong, Behind, IsText, IsBad, IfBad}
+use Rattle.kn_script.specs.Laws.{EachLineIsTakenOrBad, NoLineIsBoth, EachTextIsOneOrBad, NoTextIsBad, TextsAreOfOneScript}
+use Rattle.kn_script.proofs.ReasonLemmas.{first_of-none, first_of-some, and_then-none, MeetsNone-from}
 
 -- a line that is taken meets no reason
 pub Takes-meets_none : (p q : Progress) (line : Numbered) → Takes p line q → reasons p line ≡ []
 Takes-meets_none p q line takes =
-    rw (takes.plain, takes.known, takes.room, takes.count, takes.come, takes.in_time, takes.words) refl
+    let none = takes.meets_none in
+    rw (takes.plain, takes.known, none.room, none.count, none.come, none.in_time, none.places) refl
 
 -- a line that meets no reason is taken
-pub Takes-from : (p : Progress) (line : Numbered) (word : FirstWord) → first_word_of p.built line.name ≡ Some word → reasons p line ≡ [] → Takes p line (behind p word line.arguments)
+pub Takes-from : (p : Progress) (line : Numbered) (word : FirstWord) → first_word_of p.built line.name ≡ Some word → reasons p line ≡ [] →
+    Takes p line (behind p word line.arguments)
 Takes-from p line word known none =
     let plain = and_then-none _ Word _ none in
     let of_word : reasons_of p word line.arguments ≡ [] = at_word (first_word_of p.built line.name) known plain.1 in
-    let room = and_then-none _ _ _ of_word in
-    let count = and_then-none _ _ _ room.1 in
-    let come = and_then-none _ _ _ count.1 in
-    let in_time = and_then-none _ _ _ come.1 in
     record {
       word = word;
       plain = plain.0;
       known = known;
-      words = in_time.1;
-      room = room.0;
-      count = count.0;
-      come = come.0;
-      in_time = in_time.0;
+      meets_none = MeetsNone-from p word word line.arguments refl of_word;
       after = refl;
     }
   where
-    at_word : (o : Option FirstWord) → o ≡ Some word → if_known (λ first. reasons_of p first line.arguments) o ≡ [] → reasons_of p word line.arguments ≡ []
+    at_word : (o : Option FirstWord) → o ≡ Some word → if_known (λ first. reasons_of p first line.arguments) o ≡ [] →
+        reasons_of p word line.arguments ≡ []
     at_word None e h = cc
     at_word (Some first) e h = subst (λ w. reasons_of p w line.arguments ≡ []) (same_Some first word e) h
 
@@ -63,24 +60,21 @@ Takes-one p a b line one other =
     let same : one.word ≡ other.word = same_Some one.word other.word (sym one.known ∙ other.known) in
     one.after ∙ ap (λ w. behind p w line.arguments) same ∙ sym other.after
 
--- no line that is taken is bad
-pub Takes-not_bad : (p q : Progress) (line : Numbered) (why : Why) → Takes p line q → IsFirst p line why → ⊥
-Takes-not_bad p q line why takes bad = subst (λ rs. IsAmong rs why) (Takes-meets_none p q line takes) bad.meets
+-- a line that is taken meets no reason
+pub Takes-not_met : NoLineIsBoth
+Takes-not_met p q line why takes meets = subst (λ rs. IsAmong rs why) (Takes-meets_none p q line takes) meets
 
 -- a line is taken, or it is bad
-pub taken_or_bad : (p : Progress) (line : Numbered) → ((q : Progress) × Takes p line q) ⊎ ((why : Why) × IsFirst p line why)
-taken_or_bad p line =
-    elim (first_of (reasons p line)) as (λ o. first_of (reasons p line) ≡ o → ((q : Progress) × Takes p line q) ⊎ ((why : Why) × IsFirst p line why)) [
-      | None ↦ λ e. inl (taken (first_word_of p.built line.name) refl (first_of-none _ e))
-      | Some why ↦ λ e. inr (why, first_bad why (first_of-some _ why e))
-    ] refl
+pub taken_or_bad : EachLineIsTakenOrBad
+taken_or_bad p line = at (first_of (reasons p line)) refl
   where
     taken : (o : Option FirstWord) → first_word_of p.built line.name ≡ o → reasons p line ≡ [] → (q : Progress) × Takes p line q
     taken None e none = absurd (unknown-meets p line e none)
     taken (Some word) e none = (behind p word line.arguments, Takes-from p line word e none)
 
-    first_bad : (why : Why) → StandsFirst (reasons p line) why → IsFirst p line why
-    first_bad why h = record { meets = h.among; first = h.first }
+    at : (o : Option Why) → first_of (reasons p line) ≡ o → ((q : Progress) × Takes p line q) ⊎ ((why : Why) × IsFirst p line why)
+    at None e = inl (taken (first_word_of p.built line.name) refl (first_of-none _ e))
+    at (Some why) e = inr (why, first_of-some _ why e)
 
 -- lines are the text of one script at most
 pub Reads-one : (p : Progress) (lines : List Numbered) (s t : Scripted) → Reads p lines s → Reads p lines t → s ≡ t
@@ -91,13 +85,17 @@ Reads-one p (line ∷ lines) s t (a, takes, reads) (b, takes', reads') =
 -- no text has a bad line
 pub Reads-not_bad : (p : Progress) (lines : List Numbered) (end n : ℕ) (why : Why) (s : Scripted) → Reads p lines s → IsBadAmong p lines end n why → ⊥
 Reads-not_bad p [] end n why s reads bad = omega (arith, reads.0, bad.0)
-Reads-not_bad p (line ∷ lines) end n why s (a, takes, reads) (inl bad) = Takes-not_bad p a line why takes bad.1
+Reads-not_bad p (line ∷ lines) end n why s (a, takes, reads) (inl bad) = Takes-not_met p a line why takes bad.1.among
 Reads-not_bad p (line ∷ lines) end n why s (a, takes, reads) (inr (b, takes', bad)) =
     Reads-not_bad b lines end n why s (subst (λ q. Reads q lines s) (Takes-one p a b line takes takes') reads) bad
 
 -- lines are a text or have a bad line
-pub reads_or_bad : (p : Progress) (lines : List Numbered) (end : ℕ) → ((s : Scripted) × Reads p lines s) ⊎ ((n : ℕ) × (why : Why) × IsBadAmong p lines end n why)
-reads_or_bad p [] end = elim (cases_lt p.stage 3) [ inl few ↦ inr (end, Count, (few, refl, refl)) | inr whole ↦ inl (script_of p, (whole, refl)) ]
+pub reads_or_bad : (p : Progress) (lines : List Numbered) (end : ℕ) →
+    ((s : Scripted) × Reads p lines s) ⊎ ((n : ℕ) × (why : Why) × IsBadAmong p lines end n why)
+reads_or_bad p [] end = elim (cases_lt p.stage 3) [
+  | inl few ↦ inr (end, Count, (few, refl, refl))
+  | inr whole ↦ inl (script_of p, (whole, refl))
+]
 reads_or_bad p (line ∷ lines) end =
     elim (taken_or_bad p line) [
       | inl taken ↦ elim (reads_or_bad taken.0 lines end) [
@@ -107,12 +105,9 @@ reads_or_bad p (line ∷ lines) end =
       | inr bad ↦ inr (line.number, bad.0, inl (refl, bad.1))
     ]
 
--- what the lines that are left give is what all lines give
-pub record Behind (first : Progress) (all : List Numbered) (end : ℕ) (p : Progress) (left : List Numbered) : Type 0 where
-  pub reads : (s : Scripted) → Reads p left s → Reads first all s
-  pub bad : (n : ℕ) (why : Why) → IsBadAmong p left end n why → IsBadAmong first all end n why
-
-pub Behind-more : (first : Progress) (all left rest : List Numbered) (end : ℕ) (p q : Progress) (line : Numbered) → Behind first all end p left → left ≡ line ∷ rest → Takes p line q → Behind first all end q rest
+-- one more line is taken
+pub Behind-more : (first : Progress) (all left rest : List Numbered) (end : ℕ) (p q : Progress) (line : Numbered) → Behind first all end p left →
+    left ≡ line ∷ rest → Takes p line q → Behind first all end q rest
 Behind-more first all left rest end p q line before is takes =
     let here : Behind first all end p (line ∷ rest) = subst (λ ls. Behind first all end p ls) is before in
     record {
@@ -121,38 +116,36 @@ Behind-more first all left rest end p q line before is takes =
     }
 
 -- a text is of one script
-pub IsText-one : (built : Built) (s t : Scripted) (bytes : List ℕ) → IsText built s bytes → IsText built t bytes → s ≡ t
+pub IsText-one : (built : Built) → TextsAreOfOneScript built
 IsText-one built s t bytes one other = Reads-one (start built) _ s t one.reads other.reads
 
 -- bytes that are bad are no text
-pub IsText-not_bad : (built : Built) (s : Scripted) (bytes : List ℕ) (n : ℕ) (why : Why) → IsText built s bytes → IsBad built bytes n why → ⊥
+pub IsText-not_bad : (built : Built) → NoTextIsBad built
 IsText-not_bad built s bytes n why text (inl long) = omega (arith, text.short, long.long)
 IsText-not_bad built s bytes n why text (inr bad) = Reads-not_bad (start built) _ _ n why s text.reads bad.bad
 
 -- what was judged of a line whose first word is known
-pub judged-bad : (p : Progress) (line : Numbered) (word : FirstWord) (why : Why) → has_odd_byte line.text ≡ false → first_word_of p.built line.name ≡ Some word → first_of (reasons_of p word line.arguments) ≡ Some why → IsFirst p line why
+pub judged-bad : (p : Progress) (line : Numbered) (word : FirstWord) (why : Why) → has_odd_byte line.text ≡ false →
+    first_word_of p.built line.name ≡ Some word → first_of (reasons_of p word line.arguments) ≡ Some why → IsFirst p line why
 judged-bad p line word why plain known first =
     let same : reasons p line ≡ reasons_of p word line.arguments = rw (plain, known) refl in
-    let h = first_of-some (reasons p line) why (ap first_of same ∙ first) in
-    record { meets = h.among; first = h.first }
+    first_of-some (reasons p line) why (ap first_of same ∙ first)
 
-pub judged-good : (p : Progress) (line : Numbered) (word : FirstWord) → has_odd_byte line.text ≡ false → first_word_of p.built line.name ≡ Some word → first_of (reasons_of p word line.arguments) ≡ None → reasons p line ≡ []
+pub judged-good : (p : Progress) (line : Numbered) (word : FirstWord) → has_odd_byte line.text ≡ false → first_word_of p.built line.name ≡ Some word →
+    first_of (reasons_of p word line.arguments) ≡ None → reasons p line ≡ []
 judged-good p line word plain known first =
     let same : reasons p line ≡ reasons_of p word line.arguments = rw (plain, known) refl in
     same ∙ first_of-none _ first
 
 -- bytes with a bad line are no text
-pub bad-no_text : {X : Type 0} (built : Built) (result : Result X Fault) (bytes : List ℕ) → IfBad result (λ n why. IsBad built bytes n why) → IfBad result (λ n why. (s : Scripted) → IsText built s bytes → ⊥)
+pub bad-no_text : {X : Type 0} (built : Built) (result : Result X Fault) (bytes : List ℕ) → IfBad result (λ n why. IsBad built bytes n why) →
+    IfBad result (λ n why. (s : Scripted) → IsText built s bytes → ⊥)
 bad-no_text built (Ok x) bytes bad = tt
 bad-no_text built (Err Memory) bytes bad = tt
 bad-no_text built (Err (Bad n why)) bytes bad = λ s text. IsText-not_bad built s bytes n why text bad
 
--- a line that is taken meets no reason
-pub Takes-not_met : (p q : Progress) (line : Numbered) (why : Why) → Takes p line q → Meets p line why → ⊥
-Takes-not_met p q line why takes meets = subst (λ rs. IsAmong rs why) (Takes-meets_none p q line takes) meets
-
 -- all bytes are the text of a script, or have a first bad line
-pub text_or_bad : (built : Built) (bytes : List ℕ) → ((s : Scripted) × IsText built s bytes) ⊎ ((n : ℕ) × (why : Why) × IsBad built bytes n why)
+pub text_or_bad : (built : Built) → EachTextIsOneOrBad built
 text_or_bad built bytes = elim (cases_lt LONGEST_TEXT (length bytes)) [
   | inl long ↦ inr (_, Long, inl (record { long = long; line = refl; reason = refl }))
   | inr short ↦ elim (reads_or_bad (start built) (unread 1 bytes).left (unread 1 bytes).end) [

@@ -8,3 +8,4 @@ pub mod SizeLemmas
 pub mod FitLemmas
 pub mod GoodLemmas
 pub mod BuiltLemmas
+pub mod WordLemmas

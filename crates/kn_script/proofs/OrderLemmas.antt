@@ -1,9 +1,10 @@
 -- Order words: where they are cut, and what the numbers that are kept of them have lost.
 use Rattle.std.proofs.Common.{◌≡◌, ◌≢◌, ℕ, zero, suc, ◌+◌, ◌<◌, ◌≤◌, ◌==◌, nat_le, min, Bool, true, false, cond, Option}
-use Rattle.std.proofs.Common.{Some, None, option_map, option_and_then, IfSome, List, [], ◌∷◌, length, get_or, take, drop, filter_map, refl, ap}
-use Rattle.std.proofs.Common.{◌∙◌, subst, arith}
-use Rattle.std.specs.List.{AllByRecursion}
-use Rattle.std.proofs.lemmas.Bool.{ne_eqb, leb-false, le-leb, or_parts}
+use Rattle.std.proofs.Common.{Some, None, option_map, IfSome, List, [], ◌∷◌, length, get_or, take, drop, filter_map, refl, ap}
+use Rattle.std.proofs.Common.{◌∙◌, subst, sym, bytes_eq, codes, arith}
+use Rattle.std.specs.List.{AllByRecursion, list_all}
+use Rattle.std.proofs.lemmas.Bool.{ne_eqb, leb-true, leb-false, le-leb, or_parts, and_parts}
+use Rattle.std.proofs.lemmas.Slice.Eq.{bytes_eq-Decides}
 use Rattle.kn_base.specs.declared.limits.TheConstants.{MOST_CLEANERS}
 use Rattle.kn_script.specs.declared.faults.Why.TheVariants.{Range}
 use Rattle.kn_script.specs.declared.built.Built.{Built}
@@ -16,19 +17,22 @@ use Rattle.kn_script.specs.declared.orders.Until.{Until}
 use Rattle.kn_script.specs.declared.orders.Until.TheVariants as until
 use Rattle.kn_script.specs.declared.orders.OrderWord.{OrderWord}
 use Rattle.kn_script.specs.declared.orders.OrderWord.TheVariants.{Run, Uninstall}
-use Rattle.kn_script.specs.Numbers.{number_of}
+use Rattle.kn_script.specs.Numbers.{number_of, is_digit}
 use Rattle.kn_script.specs.Built.{has_part, only_if}
-use Rattle.kn_script.specs.Orders.{Cut, cut_of, is_sign, run_of, uninstall_of, alone_of, of_cut, order_of, actor_of, until_of}
+use Rattle.kn_script.specs.Orders.{Cut, cut_of, is_sign, run_of, IsApart, turn_of, join, uninstall_of, alone_of, of_cut, order_of, actor_of, until_of}
 use Rattle.kn_script.specs.Forms.{open_form_of, wanted_at}
 use Rattle.kn_script.specs.Scripts.{Progress}
 use Rattle.kn_script.specs.Reasons.{when, is_actor_outside, is_until_outside, is_order_outside, of_word}
 use Rattle.kn_script.specs.Reasons.{reason_at, word_reasons}
-use Rattle.kn_script.specs.Good.{IsActor, IsUntil, IsOrderWord}
-use Rattle.kn_script.specs.Readings.{capped, capped_actor, capped_until}
+use Rattle.kn_script.specs.Good.{IsActor, IsUntil, IsOrderWord, AreInRange}
+use Rattle.kn_script.specs.Readings.{AreKeptWhole, capped, capped_actor, capped_until}
+use Rattle.kn_script.proofs.NumberLemmas.{number_of-are_digits}
 use Rattle.kn_script.proofs.ReasonLemmas.{and_then-nothing, when-none, outside-not, and-not}
 
 -- up to the first sign
-pub cut_of-split : (bytes : List ℕ) (i : ℕ) → i < length bytes → ((k : ℕ) → k < i → is_sign (get_or bytes k 0) ≡ false) → is_sign (get_or bytes i 0) ≡ true → cut_of bytes ≡ Some (record { before = take i bytes; sign = get_or bytes i 0; behind = drop (suc i) bytes })
+pub cut_of-split : (bytes : List ℕ) (i : ℕ) → i < length bytes → ((k : ℕ) → k < i → is_sign (get_or bytes k 0) ≡ false) →
+    is_sign (get_or bytes i 0) ≡ true →
+    cut_of bytes ≡ Some (record { before = take i bytes; sign = get_or bytes i 0; behind = drop (suc i) bytes })
 cut_of-split [] i h before found = absurd (omega arith)
 cut_of-split (b ∷ bs) zero h before found = rw found refl
 cut_of-split (b ∷ bs) (suc i) h before found =
@@ -55,16 +59,18 @@ run-capped who.Round (until.Turns n) = refl
 run-capped who.Round (until.Calls n) = refl
 run-capped who.Round (until.Code p) = refl
 
-pub joined-capped : (actor : Option Actor) (u : Option Until) → option_and_then (λ a. option_and_then (run_of a) (option_map capped_until u)) (option_map capped_actor actor) ≡ option_map capped (option_and_then (λ a. option_and_then (run_of a) u) actor)
+pub joined-capped : (actor : Option Actor) (u : Option Until) →
+    join (option_map capped_actor actor) (option_map capped_until u) ≡ option_map capped (join actor u)
 joined-capped None u = refl
 joined-capped (Some actor) None = refl
 joined-capped (Some actor) (Some u) = run-capped actor u
 
-turn-capped : (actor : Option Actor) → option_map (λ a. Run a (until.Turns 1)) (option_map capped_actor actor) ≡ option_map capped (option_map (λ a. Run a (until.Turns 1)) actor)
+turn-capped : (actor : Option Actor) → turn_of (option_map capped_actor actor) ≡ option_map capped (turn_of actor)
 turn-capped None = refl
 turn-capped (Some actor) = refl
 
-pub alone-turn : (built : Built) (word : List ℕ) → get_or word 0 0 ≢ 117 → option_map (λ a. Run a (until.Turns 1)) (option_map capped_actor (actor_of built word)) ≡ option_map capped (alone_of built word)
+pub alone-turn : (built : Built) (word : List ℕ) → get_or word 0 0 ≢ 117 →
+    turn_of (option_map capped_actor (actor_of built word)) ≡ option_map capped (alone_of built word)
 alone-turn built word other = rw (ne_eqb (get_or word 0 0) 117 other) (turn-capped (actor_of built word))
 
 -- no bytes begin with `u`
@@ -72,10 +78,65 @@ pub first-none : (word : List ℕ) → length word ≡ 0 → get_or word 0 0 ≢
 first-none [] h = λ e. omega (arith, e)
 first-none (b ∷ bs) h = absurd (omega (arith, h))
 
+-- a number has no sign and does not begin with `u`
+digit-cases : (b : ℕ) → is_digit b ≡ true → (48 ≤ b) × (b ≤ 57)
+digit-cases b e =
+    let parts = and_parts (nat_le 48 b) (nat_le b 57) e in
+    (leb-true 48 b parts.0, leb-true b 57 parts.1)
+
+digit-no_sign : (b : ℕ) → is_digit b ≡ true → is_sign b ≡ false
+digit-no_sign b e =
+    let h = digit-cases b e in
+    let star = ne_eqb b 42 (λ is. omega (arith, h.0, is)) in
+    let slash = ne_eqb b 47 (λ is. omega (arith, h.0, is)) in
+    let at = ne_eqb b 64 (λ is. omega (arith, h.1, is)) in
+    rw (star, slash, at) refl
+
+digits-uncut : (word : List ℕ) → list_all is_digit word ≡ true → cut_of word ≡ None
+digits-uncut [] e = refl
+digits-uncut (b ∷ bs) e =
+    let parts = and_parts (is_digit b) (list_all is_digit bs) e in
+    rw (digit-no_sign b parts.0, digits-uncut bs parts.1) refl
+
+digits-no_u : (word : List ℕ) → list_all is_digit word ≡ true → get_or word 0 0 ≢ 117
+digits-no_u [] e = λ is. omega (arith, is)
+digits-no_u (b ∷ bs) e =
+    let h = digit-cases b (and_parts (is_digit b) (list_all is_digit bs) e).0 in
+    λ is. omega (arith, h.1, is)
+
+-- a word that spells a number is none that spells none
+number-other : (word other : List ℕ) (n : ℕ) → number_of other ≡ None → number_of word ≡ Some n → bytes_eq word other ≡ false
+number-other word other n none some = at (bytes_eq word other) refl
+  where
+    at : (b : Bool) → bytes_eq word other ≡ b → bytes_eq word other ≡ false
+    at false e = e
+    at true e =
+        let same = ap number_of ((bytes_eq-Decides word other).0 e) in
+        let wrong : Some n ≡ None = sym some ∙ same ∙ none in
+        absurd cc
+
+-- a number alone is one turn of the thread of that number
+pub order_of-number : (built : Built) (word : List ℕ) (n : ℕ) → number_of word ≡ Some n →
+    order_of built word ≡ turn_of (only_if (has_part built part.Thread) (Some (who.Thread n)))
+unfolding order_of
+order_of-number built word n some =
+    let digits = number_of-are_digits word n some in
+    let plain = ne_eqb (get_or word 0 0) 117 (digits-no_u word digits) in
+    let round = number-other word (codes "r") n refl some in
+    let collector = number-other word (codes "c") n refl some in
+    let finalizer = number-other word (codes "f") n refl some in
+    rw (digits-uncut word digits, plain, round, collector, finalizer, some) refl
+
 -- nothing is lost of a word in its ranges
 capped-same : (threads : ℕ) (order : OrderWord) → threads ≤ 16 → IsOrderWord threads order → capped order ≡ order
-capped-same threads (Run (who.Thread n) (until.Turns k)) few h = ap (λ m. Run (who.Thread m) (until.Turns (min k 4294967295))) (let same : min n 255 ≡ n = omega (arith, h.0, few) in same) ∙ ap (λ m. Run (who.Thread n) (until.Turns m)) (let same : min k 4294967295 ≡ k = omega (arith, h.1) in same)
-capped-same threads (Run (who.Thread n) (until.Calls k)) few h = ap (λ m. Run (who.Thread m) (until.Calls (min k 4294967295))) (let same : min n 255 ≡ n = omega (arith, h.0, few) in same) ∙ ap (λ m. Run (who.Thread n) (until.Calls m)) (let same : min k 4294967295 ≡ k = omega (arith, h.1) in same)
+capped-same threads (Run (who.Thread n) (until.Turns k)) few h =
+    let thread : min n 255 ≡ n = omega (arith, h.0, few) in
+    let turns : min k 4294967295 ≡ k = omega (arith, h.1) in
+    rw (thread, turns) refl
+capped-same threads (Run (who.Thread n) (until.Calls k)) few h =
+    let thread : min n 255 ≡ n = omega (arith, h.0, few) in
+    let calls : min k 4294967295 ≡ k = omega (arith, h.1) in
+    rw (thread, calls) refl
 capped-same threads (Run (who.Thread n) (until.Code c)) few h = ap (λ m. Run (who.Thread m) (until.Code c)) (omega (arith, h.0, few))
 capped-same threads (Run who.Collector (until.Turns k)) few h = ap (λ m. Run who.Collector (until.Turns m)) (omega (arith, h.1))
 capped-same threads (Run who.Collector (until.Calls k)) few h = absurd h.1
@@ -89,11 +150,6 @@ capped-same threads (Run who.Round (until.Code c)) few h = refl
 capped-same threads (Uninstall n) few h = ap (λ m. Uninstall m) (omega (arith, h))
 
 -- calls are counted of a thread alone
-abbrev IsApart : OrderWord → Type 0
-IsApart (Run (who.Thread n) u) = Unit {0}
-IsApart (Run _ (until.Calls n)) = ⊥
-IsApart _ = Unit {0}
-
 run-apart : (actor : Actor) (u : Until) → IfSome (run_of actor u) IsApart
 run-apart (who.Thread n) u = tt
 run-apart who.Collector (until.Turns n) = tt
@@ -110,7 +166,7 @@ order-apart : (built : Built) (word : List ℕ) → IfSome (order_of built word)
 unfolding order_of
 order-apart built word = of_a_cut (cut_of word)
   where
-    turn : (actor : Option Actor) → IfSome (option_map (λ a. Run a (until.Turns 1)) actor) IsApart
+    turn : (actor : Option Actor) → IfSome (turn_of actor) IsApart
     turn None = tt
     turn (Some (who.Thread n)) = tt
     turn (Some who.Collector) = tt
@@ -126,7 +182,7 @@ order-apart built word = of_a_cut (cut_of word)
     alone true one other h k = h
     alone false one other h k = k
 
-    joined : (actor : Option Actor) (u : Option Until) → IfSome (option_and_then (λ a. option_and_then (run_of a) u) actor) IsApart
+    joined : (actor : Option Actor) (u : Option Until) → IfSome (join actor u) IsApart
     joined None u = tt
     joined (Some actor) None = tt
     joined (Some actor) (Some u) = run-apart actor u
@@ -134,17 +190,20 @@ order-apart built word = of_a_cut (cut_of word)
     of_a_cut : (o : Option Cut) → IfSome (of_cut built word o) IsApart
     of_a_cut None =
         let number = number_of (drop 1 word) in
-        alone (get_or word 0 0 == 117) (uninstall_of built (drop 1 word)) (option_map (λ a. Run a (until.Turns 1)) (actor_of built word)) (uninstall (has_part built part.Uninstall) number) (turn (actor_of built word))
+        alone (get_or word 0 0 == 117) (uninstall_of built (drop 1 word)) (turn_of (actor_of built word))
+        (uninstall (has_part built part.Uninstall) number) (turn (actor_of built word))
     of_a_cut (Some cut) = joined (actor_of built cut.before) (until_of built cut.sign cut.behind)
 
 -- a word that meets no reason is in its ranges
-order-fits : (p : Progress) (order : OrderWord) → 3 ≤ p.stage → IsApart order → is_order_outside p order ≡ false → IsOrderWord (length p.threads) order
+order-fits : (p : Progress) (order : OrderWord) → 3 ≤ p.stage → IsApart order → is_order_outside p order ≡ false →
+    IsOrderWord (length p.threads) order
 order-fits p (Run actor u) closed apart e =
     let parts = or_parts (is_actor_outside p actor) (is_until_outside u) e in
     (of_actor actor parts.0, of_until actor u apart parts.1)
   where
     of_actor : (a : Actor) → is_actor_outside p a ≡ false → IsActor (length p.threads) a
-    of_actor (who.Thread n) h = leb-false (length p.threads) n (and-not (nat_le 3 p.stage) (nat_le (length p.threads) n) (le-leb 3 p.stage closed) h)
+    of_actor (who.Thread n) h =
+        leb-false (length p.threads) n (and-not (nat_le 3 p.stage) (nat_le (length p.threads) n) (le-leb 3 p.stage closed) h)
     of_actor who.Collector h = tt
     of_actor who.Finalizer h = tt
     of_actor who.Round h = tt
@@ -170,34 +229,43 @@ scheduled-at [] k all = refl
 scheduled-at (w ∷ wants) zero all = all.0
 scheduled-at (w ∷ wants) (suc k) all = scheduled-at wants k all.1
 
-word-fits : (p : Progress) (word : List ℕ) → 3 ≤ p.stage → reason_at p Scheduled word ≡ None → IfSome (order_of p.built word) (IsOrderWord (length p.threads))
+word-fits : (p : Progress) (word : List ℕ) → 3 ≤ p.stage → reason_at p Scheduled word ≡ None →
+    IfSome (order_of p.built word) (IsOrderWord (length p.threads))
 word-fits p word closed e = at (order_of p.built word) (order-apart p.built word) e
   where
-    at : (o : Option OrderWord) → IfSome o IsApart → of_word (λ order. when (is_order_outside p order) Range) o ≡ None → IfSome o (IsOrderWord (length p.threads))
+    at : (o : Option OrderWord) → IfSome o IsApart → of_word (λ order. when (is_order_outside p order) Range) o ≡ None →
+        IfSome o (IsOrderWord (length p.threads))
     at None apart h = tt
     at (Some order) apart h = order-fits p order closed apart (when-none _ Range h)
 
-pub orders-fit : (p : Progress) (place : ℕ) (words : List (List ℕ)) → 3 ≤ p.stage → word_reasons p (open_form_of Scheduled Scheduled 3 6) place words ≡ [] → AllByRecursion (λ word. IfSome (order_of p.built word) (IsOrderWord (length p.threads))) words
+pub orders-fit : (p : Progress) (place : ℕ) (words : List (List ℕ)) → 3 ≤ p.stage →
+    word_reasons p (open_form_of Scheduled Scheduled 3 6) place words ≡ [] → AreInRange p.built (length p.threads) words
 orders-fit p place [] closed none = tt
 orders-fit p place (word ∷ words) closed none =
     let form = open_form_of Scheduled Scheduled 3 6 in
     let here = and_then-nothing (reason_at p (wanted_at form place) word) _ none in
     let want : wanted_at form place ≡ Scheduled = scheduled-at form.places place (refl, (refl, (refl, (refl, (refl, (refl, tt)))))) in
-    (word-fits p word closed (subst (λ w. reason_at p w word ≡ None) want here.0), orders-fit p (place + 1) words closed here.1)
+    let first = word-fits p word closed (subst (λ w. reason_at p w word ≡ None) want here.0) in
+    (first, orders-fit p (place + 1) words closed here.1)
 
 -- what is kept of words in their ranges is all of them
-pub orders-same : (built : Built) (threads : ℕ) (words : List (List ℕ)) → threads ≤ 16 → AllByRecursion (λ word. IfSome (order_of built word) (IsOrderWord threads)) words → filter_map (λ word. option_map capped (order_of built word)) words ≡ filter_map (order_of built) words
+pub orders-same : (built : Built) (threads : ℕ) (words : List (List ℕ)) → threads ≤ 16 → AreInRange built threads words →
+    AreKeptWhole built words
 orders-same built threads [] few all = refl
 orders-same built threads (word ∷ words) few all = at (order_of built word) refl all.0 (orders-same built threads words few all.1)
   where
-    at : (o : Option OrderWord) → order_of built word ≡ o → IfSome o (IsOrderWord threads) → filter_map (λ w. option_map capped (order_of built w)) words ≡ filter_map (order_of built) words → filter_map (λ w. option_map capped (order_of built w)) (word ∷ words) ≡ filter_map (order_of built) (word ∷ words)
+    at : (o : Option OrderWord) → order_of built word ≡ o → IfSome o (IsOrderWord threads) → AreKeptWhole built words →
+        AreKeptWhole built (word ∷ words)
     at None e h rest = rw e rest
     at (Some order) e h rest = rw (e, capped-same threads order few h, rest) refl
 
-pub orders-good : (built : Built) (threads : ℕ) (words : List (List ℕ)) → AllByRecursion (λ word. IfSome (order_of built word) (IsOrderWord threads)) words → AllByRecursion (IsOrderWord threads) (filter_map (order_of built) words)
+pub orders-good : (built : Built) (threads : ℕ) (words : List (List ℕ)) → AreInRange built threads words →
+    AllByRecursion (IsOrderWord threads) (filter_map (order_of built) words)
 orders-good built threads [] all = tt
 orders-good built threads (word ∷ words) all = at (order_of built word) refl all.0 (orders-good built threads words all.1)
   where
-    at : (o : Option OrderWord) → order_of built word ≡ o → IfSome o (IsOrderWord threads) → AllByRecursion (IsOrderWord threads) (filter_map (order_of built) words) → AllByRecursion (IsOrderWord threads) (filter_map (order_of built) (word ∷ words))
+    at : (o : Option OrderWord) → order_of built word ≡ o → IfSome o (IsOrderWord threads) →
+        AllByRecursion (IsOrderWord threads) (filter_map (order_of built) words) →
+        AllByRecursion (IsOrderWord threads) (filter_map (order_of built) (word ∷ words))
     at None e h rest = rw e rest
     at (Some order) e h rest = rw e (h, rest)

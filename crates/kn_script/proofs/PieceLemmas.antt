@@ -5,7 +5,8 @@ use Rattle.std.proofs.lemmas.Bool.{eq-eqb, ne_eqb}
 use Rattle.kn_script.specs.Lines.{pieces_at, with_first, is_empty_list, line_words, without_return}
 
 -- up to the first separator stands the first piece
-pub pieces_at-split : (separator : ℕ) (bytes : List ℕ) (i : ℕ) → i < length bytes → ((k : ℕ) → k < i → get_or bytes k 0 ≢ separator) → get_or bytes i 0 ≡ separator → pieces_at separator bytes ≡ take i bytes ∷ pieces_at separator (drop (suc i) bytes)
+pub pieces_at-split : (separator : ℕ) (bytes : List ℕ) (i : ℕ) → i < length bytes → ((k : ℕ) → k < i → get_or bytes k 0 ≢ separator) →
+    get_or bytes i 0 ≡ separator → pieces_at separator bytes ≡ take i bytes ∷ pieces_at separator (drop (suc i) bytes)
 pieces_at-split s [] i h before found = absurd (omega arith)
 pieces_at-split s (b ∷ bs) zero h before found = rw (eq-eqb b s found) refl
 pieces_at-split s (b ∷ bs) (suc i) h before found =
@@ -13,7 +14,8 @@ pieces_at-split s (b ∷ bs) (suc i) h before found =
     rw (ne_eqb b s other, pieces_at-split s bs i (omega arith) (λ k below. before (suc k) (omega arith)) found) refl
 
 -- without a separator there is one piece
-pub pieces_at-whole : (separator : ℕ) (bytes : List ℕ) → 0 < length bytes → ((k : ℕ) → k < length bytes → get_or bytes k 0 ≢ separator) → pieces_at separator bytes ≡ bytes ∷ []
+pub pieces_at-whole : (separator : ℕ) (bytes : List ℕ) → 0 < length bytes → ((k : ℕ) → k < length bytes → get_or bytes k 0 ≢ separator) →
+    pieces_at separator bytes ≡ bytes ∷ []
 pieces_at-whole s [] some none = absurd (omega arith)
 pieces_at-whole s (b ∷ []) some none =
     let other : b ≢ s = none 0 (omega arith) in
@@ -47,7 +49,8 @@ pub pieces_at-few : (separator : ℕ) (bytes : List ℕ) → length (pieces_at s
 pieces_at-few s [] = omega arith
 pieces_at-few s (b ∷ bs) = longer (b == s) b (pieces_at s bs) (length bs) (pieces_at-few s bs)
   where
-    longer : (test : Bool) (b : ℕ) (pieces : List (List ℕ)) (n : ℕ) → length pieces ≤ n → length (if test then [] ∷ pieces else with_first b pieces) ≤ suc n
+    longer : (test : Bool) (b : ℕ) (pieces : List (List ℕ)) (n : ℕ) → length pieces ≤ n →
+        length (if test then [] ∷ pieces else with_first b pieces) ≤ suc n
     longer true b pieces n h = omega arith
     longer false b [] n h = omega arith
     longer false b (p ∷ pieces) n h = omega arith

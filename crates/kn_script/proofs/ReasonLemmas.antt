@@ -1,25 +1,29 @@
 -- The first one of the reasons that a line meets.
 use Rattle.std.proofs.Common.{◌≡◌, ◌⊎◌, inl, inr, ℕ, ◌+◌, ◌<◌, ◌≤◌, nat_le, nat_lt, ◌&&◌, Bool, true, false, cond, Option, Some, None, List, [], ◌∷◌}
-use Rattle.std.proofs.Common.{refl, ap, sym, ◌∙◌, subst, arith}
+use Rattle.std.proofs.Common.{length, refl, ap, sym, ◌∙◌, subst, arith}
 use Rattle.std.proofs.lemmas.Bool.{ltb-false, or_parts, leb-true, leb-false, le-leb, lt-leb, cond-true, cond-false}
+use Rattle.std.proofs.lemmas.List.{get_or_past}
 use Rattle.std.proofs.lemmas.Option.{same_Some}
 use Rattle.kn_script.specs.declared.faults.Why.{Why}
+use Rattle.kn_script.specs.declared.faults.Why.TheVariants.{Word, Range, Count, Order, Late}
+use Rattle.kn_script.specs.declared.built.FirstWord.{FirstWord}
 use Rattle.kn_script.specs.declared.forms.Form.{Form}
-use Rattle.kn_script.specs.Forms.{wanted_at}
+use Rattle.kn_script.specs.Forms.{form_of, wanted_at}
 use Rattle.kn_script.specs.Scripts.{Progress}
-use Rattle.kn_script.specs.Reasons.{row, when, and_then, sooner, earlier, first_of, IsAmong, is_outside, reason_at, word_reasons}
+use Rattle.kn_script.specs.Reasons.{row, is_word, when, and_then, sooner, earlier, first_of, IsAmong, StandsFirst, is_outside}
+use Rattle.kn_script.specs.Reasons.{word_reasons, further_reasons, is_too_much, is_other_count, is_early, is_late, reasons_of}
+use Rattle.kn_script.specs.Reasons.{MeetsNone}
 
--- a reason that stands first among others, and behind none of them
-pub record StandsFirst (reasons : List Why) (why : Why) : Type 0 where
-  pub among : IsAmong reasons why
-  pub first : (other : Why) → row other < row why → IsAmong reasons other → ⊥
-
-sooner-cases : (why other : Why) → ((row why ≤ row other) × (sooner why (Some other) ≡ Some why)) ⊎ ((row other < row why) × (sooner why (Some other) ≡ Some other))
-sooner-cases why other =
-    elim (nat_le (row why) (row other)) as (λ b. nat_le (row why) (row other) ≡ b → ((row why ≤ row other) × (cond b (Some why) (Some other) ≡ Some why)) ⊎ ((row other < row why) × (cond b (Some why) (Some other) ≡ Some other))) [
-      | true ↦ λ e. inl (leb-true _ _ e, refl)
-      | false ↦ λ e. inr (leb-false _ _ e, refl)
-    ] refl
+-- which of two reasons stands first
+sooner-cases : (why other : Why) →
+    ((row why ≤ row other) × (sooner why (Some other) ≡ Some why)) ⊎ ((row other < row why) × (sooner why (Some other) ≡ Some other))
+sooner-cases why other = at (nat_le (row why) (row other)) refl
+  where
+    at : (b : Bool) → nat_le (row why) (row other) ≡ b →
+        ((row why ≤ row other) × (cond b (Some why) (Some other) ≡ Some why))
+        ⊎ ((row other < row why) × (cond b (Some why) (Some other) ≡ Some other))
+    at true e = inl (leb-true _ _ e, refl)
+    at false e = inr (leb-false _ _ e, refl)
 
 pub first_of-none : (reasons : List Why) → first_of reasons ≡ None → reasons ≡ []
 first_of-none [] e = refl
@@ -105,20 +109,71 @@ pub and_then-none : (test : Bool) (why : Why) (reasons : List Why) → and_then 
 and_then-none true why reasons e = cc
 and_then-none false why reasons e = (refl, e)
 
+-- words that meet no reason behind a first word, which is known
+pub MeetsNone-from : (p : Progress) (word known : FirstWord) (words : List (List ℕ)) → word ≡ known → reasons_of p word words ≡ [] →
+    MeetsNone p known words
+MeetsNone-from p word known words is none =
+    let room = and_then-none _ _ _ (subst (λ w. reasons_of p w words ≡ []) is none) in
+    let count = and_then-none _ _ _ room.1 in
+    let come = and_then-none _ _ _ count.1 in
+    let in_time = and_then-none _ _ _ come.1 in
+    record { places = in_time.1; room = room.0; count = count.0; come = come.0; in_time = in_time.0 }
+
 pub and_then-nothing : (one : Option Why) (reasons : List Why) → and_then one reasons ≡ [] → (one ≡ None) × (reasons ≡ [])
 and_then-nothing None reasons e = (refl, e)
 and_then-nothing (Some why) reasons e = cc
 
--- one more word is looked at
-pub first_of-more : (p : Progress) (form : Form) (place : ℕ) (words rest : List (List ℕ)) (word : List ℕ) (found reason next total : Option Why) → words ≡ word ∷ rest → reason ≡ reason_at p (wanted_at form place) word → next ≡ earlier found reason → earlier found (first_of (word_reasons p form place words)) ≡ total → earlier next (first_of (word_reasons p form (place + 1) rest)) ≡ total
-first_of-more p form place words rest word found reason next total is of_word then so_far =
-    let tail = first_of (word_reasons p form (place + 1) rest) in
-    ap (λ o. earlier o tail) then
-    ∙ earlier-assoc found reason tail
-    ∙ ap (λ r. earlier found (earlier r tail)) of_word
-    ∙ ap (λ o. earlier found o) (sym (first_of-and_then (reason_at p (wanted_at form place) word) (word_reasons p form (place + 1) rest)))
-    ∙ ap (λ ws. earlier found (first_of (word_reasons p form place ws))) (sym is)
+-- before `word` stands no reason, and behind it none is sooner
+pub earlier-word : (one other : Option Why) → is_word other ≡ true → earlier one other ≡ Some Word
+earlier-word one None e = absurd cc
+earlier-word None (Some Word) e = refl
+earlier-word (Some why) (Some Word) e = behind why
+  where
+    behind : (w : Why) → sooner w (Some Word) ≡ Some Word
+    behind Word = refl
+    behind w = refl
+earlier-word one (Some why) e = absurd cc
+
+pub word-earlier : (one other : Option Why) → is_word one ≡ true → earlier one other ≡ Some Word
+word-earlier None other e = absurd cc
+word-earlier (Some Word) None e = refl
+word-earlier (Some Word) (Some other) e = cond-true _ (Some Word) (Some other) (le-leb 0 (row other) (omega arith))
+word-earlier (Some why) other e = absurd cc
+
+-- past the first places each word is looked at in one way
+pub word_reasons-further : (p : Progress) (form : Form) (place : ℕ) (words : List (List ℕ)) → length form.places ≤ place →
+    word_reasons p form place words ≡ further_reasons p form.further words
+word_reasons-further p form place [] past = refl
+word_reasons-further p form place (word ∷ words) past =
+    let want : wanted_at form place ≡ form.further = get_or_past form.places place form.further past in
+    rw (want, word_reasons-further p form (place + 1) words (omega (arith, past))) refl
+
+-- one more reason is looked at
+pub first_of-more : (all rest : List Why) (found reason next total : Option Why) → all ≡ and_then reason rest → next ≡ earlier found reason →
+    earlier found (first_of all) ≡ total → earlier next (first_of rest) ≡ total
+first_of-more all rest found reason next total is then so_far =
+    ap (λ o. earlier o (first_of rest)) then
+    ∙ earlier-assoc found reason (first_of rest)
+    ∙ ap (λ o. earlier found o) (sym (first_of-and_then reason rest))
+    ∙ ap (λ rs. earlier found (first_of rs)) (sym is)
     ∙ so_far
+
+-- the reason `word` stands before all others of a line
+pub first_of-word : (p : Progress) (word : FirstWord) (words : List (List ℕ)) →
+    is_word (first_of (word_reasons p (form_of word words) 0 words)) ≡ true → first_of (reasons_of p word words) ≡ Some Word
+first_of-word p word words is =
+    let form = form_of word words in
+    let places = word_reasons p form 0 words in
+    let late = and_then (when (is_late p form) Late) places in
+    let early = and_then (when (is_early p form) Order) late in
+    let counted = and_then (when (is_other_count form words) Count) early in
+    let a = behind (when (is_late p form) Late) places is in
+    let b = behind (when (is_early p form) Order) late (ap is_word a) in
+    let c = behind (when (is_other_count form words) Count) early (ap is_word b) in
+    behind (when (is_too_much p word words) Range) counted (ap is_word c)
+  where
+    behind : (one : Option Why) (reasons : List Why) → is_word (first_of reasons) ≡ true → first_of (and_then one reasons) ≡ Some Word
+    behind one reasons e = first_of-and_then one reasons ∙ earlier-word one (first_of reasons) e
 
 -- a test that gives no reason fails
 pub when-none : (test : Bool) (why : Why) → when test why ≡ None → test ≡ false

@@ -2,13 +2,12 @@
 use Rattle.std.proofs.Common.{◌≡◌, ℕ, zero, suc, ◌+◌, ◌≤◌, List, [], ◌∷◌, length, set, refl, ap, sym, ◌∙◌, arith}
 use Rattle.kn_script.specs.Numbers.{value_of}
 use Rattle.kn_script.specs.Progress.{values_of}
+use Rattle.kn_script.specs.Readings.{written}
 
--- values, with those of the words from a place on
-abbrev pub written : List ℕ → ℕ → List (List ℕ) → List ℕ
-written values place [] = values
-written values place (word ∷ words) = written (set values place (value_of word)) (place + 1) words
-
-pub written-more : (values next : List ℕ) (place value : ℕ) (words rest : List (List ℕ)) (word : List ℕ) (total : List ℕ) → words ≡ word ∷ rest → value ≡ value_of word → next ≡ set values place value → written values place words ≡ total → written next (place + 1) rest ≡ total
+-- the value of one more word is written
+pub written-more : (values next : List ℕ) (place value : ℕ) (words rest : List (List ℕ)) (word : List ℕ) (total : List ℕ) →
+    words ≡ word ∷ rest → value ≡ value_of word → next ≡ set values place value → written values place words ≡ total →
+    written next (place + 1) rest ≡ total
 written-more values next place value words rest word total is spelled then so_far =
     ap (λ vs. written vs (place + 1) rest) (then ∙ ap (λ v. set values place v) spelled)
     ∙ ap (λ ws. written values place ws) (sym is)
@@ -20,7 +19,7 @@ set-past [] place v h = refl
 set-past (x ∷ xs) zero v h = absurd (omega arith)
 set-past (x ∷ xs) (suc place) v h = ap (λ ys. x ∷ ys) (set-past xs place v (omega arith))
 
-written-past : (values : List ℕ) (place : ℕ) (words : List (List ℕ)) → length values ≤ place → written values place words ≡ values
+pub written-past : (values : List ℕ) (place : ℕ) (words : List (List ℕ)) → length values ≤ place → written values place words ≡ values
 written-past values place [] h = refl
 written-past values place (word ∷ words) h = rw (set-past values place (value_of word) h) (written-past values (place + 1) words (omega arith))
 

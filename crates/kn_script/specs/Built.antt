@@ -59,12 +59,15 @@ call_words =
     call.GlobalSet ∷ call.GlobalGet ∷ call.Pin ∷ call.Unpin ∷ call.StableGet ∷ call.MakeWeak ∷ call.WeakGet ∷
     call.MakeBack ∷ call.Retain ∷ call.Release ∷ call.BackGet ∷ call.Tie ∷ call.Collect ∷ []
 
--- the header word, or the call word, that a word spells
+-- the header word, the call word among these, or the call word, that a word spells
 abbrev pub header_word_of : List ℕ → Option HeaderWord
 header_word_of word = find (λ h. bytes_eq word (header_spelling h)) header_words
 
+abbrev pub call_among : List CallWord → List ℕ → Option CallWord
+call_among calls word = find (λ c. bytes_eq word (call_spelling c)) calls
+
 abbrev pub call_word_of : List ℕ → Option CallWord
-call_word_of word = find (λ c. bytes_eq word (call_spelling c)) call_words
+call_word_of word = call_among call_words word
 
 -- the places of header words, call words and parts of order words in the lists of what is built
 abbrev pub header_place : HeaderWord → ℕ

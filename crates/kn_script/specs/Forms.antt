@@ -1,6 +1,8 @@
 -- How the lines of each first word look, and between which lines they stand.
-use Rattle.std.specs.Prelude.{ℕ, true, false, Option, Some, None, List, [], ◌∷◌, length, bytes_eq, slice_get, slice_index_or, codes, if◌then◌else◌}
+use Rattle.std.specs.Prelude.{ℕ, ◌+◌, true, false, Option, Some, None, List, [], ◌∷◌, length, bytes_eq, slice_get, slice_index_or, codes}
+use Rattle.std.specs.Prelude.{if◌then◌else◌}
 use Rattle.kn_base.specs.declared.limits.TheConstants.{MOST_THREADS, MOST_NAMES, MOST_FRAMES, LEAST_FRAME_WORDS, LEAST_EXTRA_WORDS, MOST_FRAME_WORDS}
+use Rattle.kn_base.specs.declared.limits.TheConstants.{LONGEST_TEXT}
 use Rattle.kn_graph.specs.declared.arguments.Argument.{Argument}
 use Rattle.kn_graph.specs.Arguments.{arguments_of}
 use Rattle.kn_script.specs.declared.built.HeaderWord.{HeaderWord}
@@ -29,7 +31,7 @@ open_form_of first further from until = record {
   places = first ∷ further ∷ further ∷ further ∷ further ∷ further ∷ [];
   further = further;
   least = 1;
-  most = 1048577;
+  most = LONGEST_TEXT + 1;
   from = from;
   until = until;
   in_block = false;

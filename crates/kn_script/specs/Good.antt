@@ -1,5 +1,5 @@
 -- Which scripts are good, and what holds of a progress between any two lines.
-use Rattle.std.specs.Prelude.{◌≡◌, ℕ, ◌<◌, ◌≤◌, List, [], length, sum_by}
+use Rattle.std.specs.Prelude.{◌≡◌, ℕ, ◌<◌, ◌≤◌, List, [], length, sum_by, IfSome}
 use Rattle.std.specs.List.{AllByRecursion}
 use Rattle.kn_base.specs.declared.heap.Sizes.{Sizes}
 use Rattle.kn_base.specs.Sizes.{Between, FramesFit, NamesFit, IsGood}
@@ -9,6 +9,7 @@ use Rattle.kn_layout.specs.Layouts.{IsLayout}
 use Rattle.kn_graph.specs.declared.calls.Call.{Call}
 use Rattle.kn_graph.specs.Ground.{Ground}
 use Rattle.kn_graph.specs.Arguments.{IsInRange}
+use Rattle.kn_script.specs.declared.built.Built.{Built}
 use Rattle.kn_script.specs.declared.header_lines.FrameSizes.{FrameSizes}
 use Rattle.kn_script.specs.declared.header_lines.NameCounts.{NameCounts}
 use Rattle.kn_script.specs.declared.orders.TheConstants.{MOST_TIMES}
@@ -18,6 +19,7 @@ use Rattle.kn_script.specs.declared.orders.Until.{Until}
 use Rattle.kn_script.specs.declared.orders.Until.TheVariants as until
 use Rattle.kn_script.specs.declared.orders.OrderWord.{OrderWord}
 use Rattle.kn_script.specs.declared.orders.OrderWord.TheVariants.{Run, Uninstall}
+use Rattle.kn_script.specs.Orders.{order_of}
 use Rattle.kn_script.specs.Scripts.{Scripted, Progress, Counts, ground_of}
 use Rattle.kn_script.specs.Progress.{no_frames, no_names, sizes_with}
 
@@ -37,6 +39,10 @@ IsUntil actor (until.Code p) = Unit {0}
 abbrev pub IsOrderWord : ℕ → OrderWord → Type 0
 IsOrderWord threads (Run actor u) = IsActor threads actor × IsUntil actor u
 IsOrderWord threads (Uninstall cleaner) = cleaner < MOST_CLEANERS
+
+-- the order words that words spell are in their ranges, with so many threads
+abbrev pub AreInRange : Built → ℕ → List (List ℕ) → Type 0
+AreInRange built threads words = AllByRecursion (λ word. IfSome (order_of built word) (IsOrderWord threads)) words
 
 -- the script is within the limits, its sizes count its calls and births, and every layout, call and order word is in
 -- its ranges
@@ -88,7 +94,7 @@ pub record AreOrderWords (stage threads : ℕ) (order : List OrderWord) : Type 0
 
 -- what holds between any two lines: what has come is within the limits and in its ranges, and what has not come is
 -- not there
-pub record IsSound (p : Progress) : Type 0 where
+pub record IsGoodProgress (p : Progress) : Type 0 where
   pub frames : 1 ≤ p.stage → FramesFit (sizes_of_frames p.frames)
   pub names : NamesFit (sizes_of_names p.names)
   pub layouts : AreLayouts p.layouts

@@ -11,21 +11,16 @@ use Rattle.kn_script.specs.declared.built.Built.{Built}
 use Rattle.kn_script.specs.declared.built.TheConstants.{TODAY}
 use Rattle.kn_script.specs.Built.{first_word_of}
 use Rattle.kn_script.specs.Lines.{Numbered, unread, has_odd_byte}
-use Rattle.kn_script.specs.Forms.{form_of}
 use Rattle.kn_script.specs.Scripts.{Scripted, Progress}
 use Rattle.kn_script.specs.Progress.{start, behind, script_of}
-use Rattle.kn_script.specs.Reasons.{word_reasons, is_too_much, is_other_count, is_early, is_late, IsFirst}
+use Rattle.kn_script.specs.Reasons.{MeetsNone, IsFirst}
 
 -- a good line, and the progress behind it
 pub record Takes (p : Progress) (line : Numbered) (q : Progress) : Type 0 where
   pub word : FirstWord
   pub plain : has_odd_byte line.text ≡ false
   pub known : first_word_of p.built line.name ≡ Some word
-  pub words : word_reasons p (form_of word line.arguments) 0 line.arguments ≡ []
-  pub room : is_too_much p word line.arguments ≡ false
-  pub count : is_other_count (form_of word line.arguments) line.arguments ≡ false
-  pub come : is_early p (form_of word line.arguments) ≡ false
-  pub in_time : is_late p (form_of word line.arguments) ≡ false
+  pub meets_none : MeetsNone p word line.arguments
   pub after : q ≡ behind p word line.arguments
 
 -- the required lines have come
@@ -42,6 +37,11 @@ abbrev pub IsBadAmong : Progress → List Numbered → ℕ → ℕ → Why → T
 IsBadAmong p [] end n why = (p.stage < 3) × (n ≡ end) × (why ≡ Count)
 IsBadAmong p (line ∷ lines) end n why =
     ((n ≡ line.number) × IsFirst p line why) ⊎ ((q : Progress) × Takes p line q × IsBadAmong q lines end n why)
+
+-- what the lines that are left give is what all lines give
+pub record Behind (first : Progress) (all : List Numbered) (end : ℕ) (p : Progress) (left : List Numbered) : Type 0 where
+  pub reads : (s : Scripted) → Reads p left s → Reads first all s
+  pub bad : (n : ℕ) (why : Why) → IsBadAmong p left end n why → IsBadAmong first all end n why
 
 -- what holds of the line and the reason that are told
 abbrev pub IfBad : {X : Type 0} → Result X Fault → (ℕ → Why → Type 0) → Type 0

@@ -68,6 +68,20 @@ run_of (who.Thread n) u = Some (Run (who.Thread n) u)
 run_of actor (until.Calls n) = None
 run_of actor u = Some (Run actor u)
 
+-- calls are counted of a thread alone
+abbrev pub IsApart : OrderWord → Type 0
+IsApart (Run (who.Thread n) u) = Unit {0}
+IsApart (Run _ (until.Calls n)) = ⊥
+IsApart _ = Unit {0}
+
+-- one turn, or one round, of an actor
+abbrev pub turn_of : Option Actor → Option OrderWord
+turn_of actor = option_map (λ a. Run a (until.Turns 1)) actor
+
+-- an actor and an end, where there are both
+abbrev pub join : Option Actor → Option Until → Option OrderWord
+join actor u = option_and_then (λ a. option_and_then (run_of a) u) actor
+
 -- `u` and the number of a cleaner
 abbrev pub uninstall_of : Built → List ℕ → Option OrderWord
 uninstall_of built number = only_if (has_part built part.Uninstall) (option_map (λ n. Uninstall n) (number_of number))
@@ -77,12 +91,11 @@ abbrev pub alone_of : Built → List ℕ → Option OrderWord
 alone_of built word =
     if slice_index word 0 == 117
     then uninstall_of built (drop 1 word)
-    else option_map (λ actor. Run actor (until.Turns 1)) (actor_of built word)
+    else turn_of (actor_of built word)
 
 -- a word with a sign
 abbrev pub joined_of : Built → Cut → Option OrderWord
-joined_of built cut =
-    option_and_then (λ actor. option_and_then (run_of actor) (until_of built cut.sign cut.behind)) (actor_of built cut.before)
+joined_of built cut = join (actor_of built cut.before) (until_of built cut.sign cut.behind)
 
 abbrev pub of_cut : Built → List ℕ → Option Cut → Option OrderWord
 of_cut built word None = alone_of built word

@@ -1,5 +1,5 @@
 -- What the lines so far have given, and what a line adds.
-use Rattle.std.specs.Prelude.{ℕ, ◌+◌, ◌-◌, Option, Some, None, List, [], ◌∷◌, ◌++◌, length, count_by, replicate, filter_map, slice_index}
+use Rattle.std.specs.Prelude.{ℕ, ◌+◌, ◌-◌, Option, Some, None, List, [], ◌∷◌, ◌++◌, length, replicate, filter_map, slice_index}
 use Rattle.std.specs.Prelude.{slice_index_or, slice_set, bytes_eq, codes, if◌then◌else◌}
 use Rattle.kn_base.specs.declared.heap.Sizes.{Sizes}
 use Rattle.kn_layout.specs.declared.layouts.FieldKind.{FieldKind}
@@ -10,6 +10,7 @@ use Rattle.kn_graph.specs.declared.arguments.CallWord.{CallWord}
 use Rattle.kn_graph.specs.declared.arguments.CallWord.TheVariants as call
 use Rattle.kn_graph.specs.declared.calls.Call.{Call}
 use Rattle.kn_graph.specs.declared.calls.Call.TheVariants as made
+use Rattle.kn_graph.specs.Counts.{births_among}
 use Rattle.kn_script.specs.declared.built.Built.{Built}
 use Rattle.kn_script.specs.declared.built.HeaderWord.{HeaderWord}
 use Rattle.kn_script.specs.declared.built.HeaderWord.TheVariants as header
@@ -19,7 +20,7 @@ use Rattle.kn_script.specs.declared.header_lines.FrameSizes.{FrameSizes}
 use Rattle.kn_script.specs.declared.header_lines.NameCounts.{NameCounts}
 use Rattle.kn_script.specs.Numbers.{value_at}
 use Rattle.kn_script.specs.Orders.{order_of}
-use Rattle.kn_script.specs.Scripts.{Scripted, Progress, is_birth, counts_of}
+use Rattle.kn_script.specs.Scripts.{Scripted, Progress, counts_of}
 
 -- the kind that a word spells
 abbrev pub kind_of : List ℕ → Option FieldKind
@@ -148,7 +149,7 @@ sizes_with frames names threads calls births = record {
 -- the sizes of these frames and names, which count the calls and births of these threads
 abbrev pub sizes_of : FrameSizes → NameCounts → List (List Call) → Sizes
 sizes_of frames names threads =
-    sizes_with frames names (length threads) (counts_of length 16 threads) (counts_of (count_by is_birth) 16 threads)
+    sizes_with frames names (length threads) (counts_of length 16 threads) (counts_of births_among 16 threads)
 
 -- the script that the lines give
 abbrev pub script_of : Progress → Scripted

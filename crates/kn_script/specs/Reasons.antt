@@ -41,6 +41,11 @@ row Order = 4
 row Late = 5
 row Long = 6
 
+-- the reason `word`, before which none stands in the table
+abbrev pub is_word : Option Why → Bool
+is_word (Some Word) = true
+is_word _ = false
+
 -- the reason, where the test says so
 abbrev pub when : Bool → Why → Option Why
 when test why = if test then Some why else None
@@ -140,6 +145,11 @@ abbrev pub word_reasons : Progress → Form → ℕ → List (List ℕ) → List
 word_reasons p form place [] = []
 word_reasons p form place (word ∷ words) = and_then (reason_at p (wanted_at form place) word) (word_reasons p form (place + 1) words)
 
+-- what words meet, each at what is wanted there
+abbrev pub further_reasons : Progress → Wanted → List (List ℕ) → List Why
+further_reasons p want [] = []
+further_reasons p want (word ∷ words) = and_then (reason_at p want word) (further_reasons p want words)
+
 -- more frames or words than a heap may have, tested as soon as all their numbers are there
 abbrev pub is_large_heap : List ℕ → ℕ → Bool
 is_large_heap ns count =
@@ -147,11 +157,14 @@ is_large_heap ns count =
     || (nat_le 6 count
     && nat_lt MOST_HEAP_WORDS (slice_index ns 0 * slice_index ns 1 + slice_index ns 2 * slice_index ns 3 + slice_index ns 4 * slice_index ns 5))
 
+-- a layout line of fields with more words than a layout may have
+abbrev pub is_long_layout : List (List ℕ) → Bool
+is_long_layout words = not (bytes_eq (slice_index_or words 0 []) (codes "array")) && nat_lt (MOST_FIELDS + 1) (length words)
+
 -- more than there is room for: a heap, kinds or layouts, or order words
 abbrev pub is_header_too_much : Progress → HeaderWord → List (List ℕ) → Bool
 is_header_too_much p header.Heap words = is_large_heap (values_of words) (length words)
-is_header_too_much p header.Layout words =
-    (not (bytes_eq (slice_index_or words 0 []) (codes "array")) && nat_lt (MOST_FIELDS + 1) (length words)) || nat_le MOST_LAYOUTS (length p.layouts)
+is_header_too_much p header.Layout words = is_long_layout words || nat_le MOST_LAYOUTS (length p.layouts)
 is_header_too_much p header.Order words = nat_lt MOST_ORDER_WORDS (length p.order + length words)
 is_header_too_much p _ words = false
 
@@ -180,6 +193,14 @@ reasons_of p word words =
     (and_then (when (is_early p (form_of word words)) Order)
     (and_then (when (is_late p (form_of word words)) Late)
     (word_reasons p (form_of word words) 0 words))))
+
+-- the words behind a first word meet no reason
+pub record MeetsNone (p : Progress) (word : FirstWord) (words : List (List ℕ)) : Type 0 where
+  pub places : word_reasons p (form_of word words) 0 words ≡ []
+  pub room : is_too_much p word words ≡ false
+  pub count : is_other_count (form_of word words) words ≡ false
+  pub come : is_early p (form_of word words) ≡ false
+  pub in_time : is_late p (form_of word words) ≡ false
 
 -- `word` where the first word is not known
 abbrev pub if_known : (FirstWord → List Why) → Option FirstWord → List Why
@@ -214,7 +235,11 @@ IsAmong (other ∷ reasons) why = (other ≡ why) ⊎ IsAmong reasons why
 abbrev pub Meets : Progress → Numbered → Why → Type 0
 Meets p line why = IsAmong (reasons p line) why
 
+-- the reason is one of them, and none of them stands before it in the table
+pub record StandsFirst (reasons : List Why) (why : Why) : Type 0 where
+  pub among : IsAmong reasons why
+  pub first : (other : Why) → row other < row why → IsAmong reasons other → ⊥
+
 -- the reason is the first one that the line meets
-pub record IsFirst (p : Progress) (line : Numbered) (why : Why) : Type 0 where
-  pub meets : Meets p line why
-  pub first : (other : Why) → row other < row why → Meets p line other → ⊥
+abbrev pub IsFirst : Progress → Numbered → Why → Type 0
+IsFirst p line why = StandsFirst (reasons p line) why

@@ -1,10 +1,10 @@
 -- Scripts, and what is read of one so far.
-use Rattle.std.specs.Prelude.{◌≡◌, ℕ, zero, suc, Bool, true, false, List, [], ◌∷◌, length, count_by}
+use Rattle.std.specs.Prelude.{◌≡◌, ℕ, zero, suc, List, [], ◌∷◌, length}
 use Rattle.kn_base.specs.declared.heap.Sizes.{Sizes}
 use Rattle.kn_layout.specs.declared.layouts.Layout.{Layout}
 use Rattle.kn_graph.specs.declared.calls.Call.{Call}
-use Rattle.kn_graph.specs.declared.calls.Call.TheVariants.{New, NewArray}
 use Rattle.kn_graph.specs.Ground.{Ground}
+use Rattle.kn_graph.specs.Counts.{births_among}
 use Rattle.kn_script.specs.declared.built.Built.{Built}
 use Rattle.kn_script.specs.declared.header_lines.FrameSizes.{FrameSizes}
 use Rattle.kn_script.specs.declared.header_lines.NameCounts.{NameCounts}
@@ -22,12 +22,6 @@ pub record Scripted : Type 0 where
 abbrev pub ground_of : Scripted → Ground
 ground_of s = record { sizes = s.sizes; layouts = s.layouts }
 
--- a call that asks for a new object
-abbrev pub is_birth : Call → Bool
-is_birth (New r layout) = true
-is_birth (NewArray r layout n) = true
-is_birth _ = false
-
 -- a number for each of so many threads: what is counted of its calls, and 0 past the last thread
 abbrev pub counts_of : (List Call → ℕ) → ℕ → List (List Call) → List ℕ
 counts_of count zero threads = []
@@ -37,7 +31,7 @@ counts_of count (suc n) (calls ∷ threads) = count calls ∷ counts_of count n 
 -- the sizes count the calls and the births of each thread
 pub record Counts (s : Scripted) : Type 0 where
   pub calls : s.sizes.calls ≡ counts_of length 16 s.threads
-  pub births : s.sizes.births ≡ counts_of (count_by is_birth) 16 s.threads
+  pub births : s.sizes.births ≡ counts_of births_among 16 s.threads
 
 -- what the lines so far have given: the words that are built, the parts of a script, which lines have come (1 the
 -- heap, 2 the names, 3 the threads, 4 the turns, 5 a thread, 6 an order), the least thread that may come, and the

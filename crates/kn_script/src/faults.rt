@@ -22,7 +22,7 @@ pub enum Why {
 }
 
 /// Why there is no script.
-#[derive(Clone, Copy, PartialEq, Eq, Debug, Error)]
+#[derive(Clone, Copy, Debug, Error)]
 pub enum Fault {
     /// The first bad line, and the first reason that it meets.
     #[error("bad script")]

@@ -1,13 +1,15 @@
-ghost use Rattle.std.specs.Prelude.{◌≡◌};
+ghost use Rattle.std.specs.Prelude.{◌≡◌, [], ◌∷◌};
 ghost use Rattle.kn_graph.specs.Arguments.{arguments_of};
-ghost use Rattle.kn_script.specs.Forms.{form_of, header_form_of, form_of_arguments, heap_places_of, names_places_of, one_place_of, array_places_of, wanted_at, line_form_of, open_form_of, call_form_of};
+ghost use Rattle.kn_script.specs.Forms.{form_of, header_form_of, form_of_arguments, heap_places_of, names_places_of, one_place_of, array_places_of};
+ghost use Rattle.kn_script.specs.Forms.{wanted_at, line_form_of, open_form_of, call_form_of};
 
 use crate::built::{FirstWord, HeaderWord};
 use crate::lines::Line;
 use kn_base::{
-    LEAST_EXTRA_WORDS, LEAST_FRAME_WORDS, MOST_FRAME_WORDS, MOST_FRAMES, MOST_NAMES, MOST_THREADS,
+    LEAST_EXTRA_WORDS, LEAST_FRAME_WORDS, LONGEST_TEXT, MOST_FRAME_WORDS, MOST_FRAMES, MOST_NAMES,
+    MOST_THREADS,
 };
-use kn_graph::{Argument, CallWord};
+use kn_graph::{ANY_NUMBER, Argument, CLEANER, CallWord, ELEMENTS, FIELD, LOCAL, SMALL_NUMBER};
 
 /// What is wanted at a place of a line.
 #[derive(Clone, Copy)]
@@ -46,31 +48,7 @@ pub struct Form {
 }
 
 /// More words than a text has.
-const ANY: usize = 1_048_577;
-
-const LOCAL: Wanted = Wanted::Argument(Argument::Number(15));
-
-const FIELD: Wanted = Wanted::Argument(Argument::Number(65_535));
-
-const CLEANER: Wanted = Wanted::Argument(Argument::Number(3));
-
-const ELEMENTS: Wanted = Wanted::Argument(Argument::Number(60_000));
-
-const SMALL_NUMBER: Wanted = Wanted::Argument(Argument::Number(4_294_967_295));
-
-const ANY_NUMBER: Wanted = Wanted::Argument(Argument::Number(u64::MAX));
-
-const FIELDS_LAYOUT: Wanted = Wanted::Argument(Argument::FieldsLayout);
-
-const ARRAY_LAYOUT: Wanted = Wanted::Argument(Argument::ArrayLayout);
-
-const GLOBAL: Wanted = Wanted::Argument(Argument::Global);
-
-const STABLE: Wanted = Wanted::Argument(Argument::Stable);
-
-const WEAK: Wanted = Wanted::Argument(Argument::Weak);
-
-const BACK: Wanted = Wanted::Argument(Argument::Back);
+const ANY: usize = LONGEST_TEXT as usize + 1;
 
 const NONE: Wanted = Wanted::Untested;
 
@@ -149,29 +127,55 @@ fn make_call_form(word: CallWord) -> Form
     ensures { result ≡ form_of_arguments (arguments_of word) }
 {
     match word {
-        CallWord::New => call_form(LOCAL, FIELDS_LAYOUT, NONE, 2),
-        CallWord::NewArray => call_form(LOCAL, ARRAY_LAYOUT, ELEMENTS, 3),
-        CallWord::Copy => call_form(LOCAL, LOCAL, NONE, 2),
-        CallWord::Clear => call_form(LOCAL, NONE, NONE, 1),
-        CallWord::Same => call_form(LOCAL, LOCAL, NONE, 2),
-        CallWord::Get => call_form(LOCAL, LOCAL, FIELD, 3),
-        CallWord::Set => call_form(LOCAL, FIELD, LOCAL, 3),
-        CallWord::Put => call_form(LOCAL, FIELD, ANY_NUMBER, 3),
-        CallWord::Read => call_form(LOCAL, FIELD, NONE, 2),
-        CallWord::GlobalSet => call_form(GLOBAL, LOCAL, NONE, 2),
-        CallWord::GlobalGet => call_form(LOCAL, GLOBAL, NONE, 2),
-        CallWord::Pin => call_form(STABLE, LOCAL, NONE, 2),
-        CallWord::Unpin => call_form(STABLE, NONE, NONE, 1),
-        CallWord::StableGet => call_form(LOCAL, STABLE, NONE, 2),
-        CallWord::MakeWeak => call_form(WEAK, LOCAL, NONE, 2),
-        CallWord::WeakGet => call_form(LOCAL, WEAK, NONE, 2),
-        CallWord::MakeBack => call_form(BACK, LOCAL, NONE, 2),
-        CallWord::Retain => call_form(BACK, NONE, NONE, 1),
-        CallWord::Release => call_form(BACK, NONE, NONE, 1),
-        CallWord::BackGet => call_form(LOCAL, BACK, NONE, 2),
-        CallWord::Tie => call_form(LOCAL, CLEANER, SMALL_NUMBER, 3),
+        CallWord::New => two(LOCAL, Argument::FieldsLayout),
+        CallWord::NewArray => three(LOCAL, Argument::ArrayLayout, ELEMENTS),
+        CallWord::Copy => two(LOCAL, LOCAL),
+        CallWord::Clear => one(LOCAL),
+        CallWord::Same => two(LOCAL, LOCAL),
+        CallWord::Get => three(LOCAL, LOCAL, FIELD),
+        CallWord::Set => three(LOCAL, FIELD, LOCAL),
+        CallWord::Put => three(LOCAL, FIELD, ANY_NUMBER),
+        CallWord::Read => two(LOCAL, FIELD),
+        CallWord::GlobalSet => two(Argument::Global, LOCAL),
+        CallWord::GlobalGet => two(LOCAL, Argument::Global),
+        CallWord::Pin => two(Argument::Stable, LOCAL),
+        CallWord::Unpin => one(Argument::Stable),
+        CallWord::StableGet => two(LOCAL, Argument::Stable),
+        CallWord::MakeWeak => two(Argument::Weak, LOCAL),
+        CallWord::WeakGet => two(LOCAL, Argument::Weak),
+        CallWord::MakeBack => two(Argument::Back, LOCAL),
+        CallWord::Retain => one(Argument::Back),
+        CallWord::Release => one(Argument::Back),
+        CallWord::BackGet => two(LOCAL, Argument::Back),
+        CallWord::Tie => three(LOCAL, CLEANER, SMALL_NUMBER),
         CallWord::Collect => call_form(NONE, NONE, NONE, 0),
     }
+}
+
+/// A line of a call with one argument.
+fn one(first: Argument) -> Form
+    ensures { result ≡ form_of_arguments (first ∷ []) }
+{
+    call_form(Wanted::Argument(first), NONE, NONE, 1)
+}
+
+/// A line of a call with two arguments.
+fn two(first: Argument, second: Argument) -> Form
+    ensures { result ≡ form_of_arguments (first ∷ second ∷ []) }
+{
+    call_form(Wanted::Argument(first), Wanted::Argument(second), NONE, 2)
+}
+
+/// A line of a call with three arguments.
+fn three(first: Argument, second: Argument, third: Argument) -> Form
+    ensures { result ≡ form_of_arguments (first ∷ second ∷ third ∷ []) }
+{
+    call_form(
+        Wanted::Argument(first),
+        Wanted::Argument(second),
+        Wanted::Argument(third),
+        3,
+    )
 }
 
 /// A line with these words behind its first one, so many.

@@ -1,6 +1,7 @@
-ghost use Rattle.std.specs.Prelude.{◌≡◌, [], ◌∷◌, nat_lt, not, ◌&&◌, ◌+◌, bytes_eq, codes, slice_index_or, length, filter_map, IfOk};
+ghost use Rattle.std.specs.Prelude.{◌≡◌, length, filter_map, IfOk};
 ghost use Rattle.kn_layout.specs.declared.layouts.Layout.TheVariants.{Array};
 ghost use Rattle.kn_script.specs.Progress.{kind_of, layout_of, array_from};
+ghost use Rattle.kn_script.specs.Reasons.{is_long_layout};
 
 use crate::lines::{Line, Words};
 use kn_base::MOST_FIELDS;
@@ -21,7 +22,7 @@ pub fn read_kind(word: &[u8]) -> Option<FieldKind>
 /// Whether a layout line of fields has more words than a layout may have.
 pub fn is_long_layout(line: &Line, count: usize) -> bool
     requires { count ≡ length line.now.arguments }
-    ensures { result ≡ (not (bytes_eq (slice_index_or line.now.arguments 0 []) (codes "array")) && nat_lt (MOST_FIELDS + 1) (length line.now.arguments)) }
+    ensures { result ≡ is_long_layout line.now.arguments }
 {
     line.second() != b"array".as_slice() && MOST_FIELDS as usize + 1 < count
 }

@@ -1,12 +1,12 @@
 //! The grammar of scripts: from bytes to a script, or to the first bad line and its first reason.
 //!
 //! This crate owns the relation between bytes and scripts (`specs/Grammar.antt`), the table of
-//! reasons (`specs/Reasons.antt`) and the list of the words that are built (`Built`). A script, once
-//! parsed, never changes.
+//! reasons (`specs/Reasons.antt`) and the list of the words that are built (`Built`). `parse` gives
+//! only good scripts (`IsGoodScript` in `specs/Good.antt`).
 //!
 //! The parser goes over the lines once, and only it changes its progress. Between any two lines the
 //! progress is what the lines that were passed have given, none of which meets a reason, and it is
-//! within the limits (`IsSound` in `specs/Good.antt`).
+//! within the limits (`IsGoodProgress` in `specs/Good.antt`).
 #![tactic(auto)]
 
 mod built;
@@ -32,6 +32,3 @@ pub use laws::state_laws;
 pub use orders::{Actor, OrderWord, Until};
 pub use parser::{parse, read_script};
 pub use scripts::{Calls, Script};
-
-#[cfg(test)]
-mod tests;

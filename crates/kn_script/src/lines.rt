@@ -181,7 +181,11 @@ fn read_line<'a>(number: u32, piece: &'a [u8]) -> Option<Line<'a>>
 fn has_odd(text: &[u8]) -> bool
     ensures { result ≡ has_odd_byte text.now }
 {
-    text.iter().any(|byte| *byte < 32 || 126 < *byte)
+    let mut odd = false;
+    for byte in text {
+        odd |= *byte < 32 || 126 < *byte;
+    }
+    odd
 }
 
 /// Whether a line is a comment.

@@ -1,9 +1,9 @@
-ghost use Rattle.std.specs.Prelude.{◌≡◌, ◌<◌, ◌≤◌, ◌++◌, ℕ, min, option_map, option_and_then, filter_map, length, slice_index, IsTrue, IsFalse, IfOk};
+ghost use Rattle.std.specs.Prelude.{◌≡◌, ◌<◌, ◌≤◌, ◌++◌, ℕ, min, option_map, filter_map, length, slice_index, IsTrue, IsFalse, IfOk};
 ghost use Rattle.kn_script.specs.declared.orders.OrderWord.{OrderWord};
 ghost use Rattle.kn_script.specs.Numbers.{number_of};
 ghost use Rattle.kn_script.specs.Built.{has_part, only_if};
-ghost use Rattle.kn_script.specs.Orders.{order_of, alone_of, uninstall_of, run_of, until_of, actor_of, code_of, is_sign};
-ghost use Rattle.kn_script.specs.Readings.{capped, capped_actor, capped_until};
+ghost use Rattle.kn_script.specs.Orders.{order_of, alone_of, uninstall_of, run_of, turn_of, join, until_of, actor_of, code_of, is_sign};
+ghost use Rattle.kn_script.specs.Readings.{AreKeptWhole, capped, capped_actor, capped_until};
 
 use crate::built::{Built, OrderPart};
 use crate::lines::Words;
@@ -15,7 +15,7 @@ use std::alloc::AllocError;
 pub const MOST_TIMES: u32 = 1_000_000;
 
 /// Who takes turns: a thread by its number, the collector, the finalizer, or all of them in a round.
-#[derive(Clone, Copy, PartialEq, Eq)]
+#[derive(Clone, Copy)]
 pub enum Actor {
     Thread(u8),
     Collector,
@@ -25,7 +25,7 @@ pub enum Actor {
 
 /// Until when an actor takes turns: for so many turns or rounds, until a thread has answered so many
 /// calls, or until the phase has this code.
-#[derive(Clone, Copy, PartialEq, Eq)]
+#[derive(Clone, Copy)]
 pub enum Until {
     Turns(u32),
     Calls(u32),
@@ -33,14 +33,36 @@ pub enum Until {
 }
 
 /// A word of the order: turns of an actor, or the uninstalling of a cleaner.
-#[derive(Clone, Copy, PartialEq, Eq)]
+#[derive(Clone, Copy)]
 pub enum OrderWord {
     Run(Actor, Until),
     Uninstall(u8),
 }
 
 /// The order word that a word spells. A number above the greatest of its type is kept as that one.
+#[inline]
 pub fn read_order(built: &Built, word: &[u8]) -> Option<OrderWord>
+    ensures { result ≡ option_map capped (order_of built.now word.now) }
+{
+    match read_number(word) {
+        Some(number) => turn_of_thread(built, number),
+        None => read_other(built, word),
+    }
+}
+
+/// One turn of the thread of this number.
+fn turn_of_thread(built: &Built, number: u64) -> Option<OrderWord>
+    ensures { result ≡ option_map capped (turn_of (only_if (has_part built.now OrderPart.Thread) (Some (Actor.Thread number)))) }
+{
+    if !built.has_part(OrderPart::Thread) {
+        return None;
+    }
+    Some(OrderWord::Run(Actor::Thread(number.min(255) as u8), Until::Turns(1)))
+}
+
+/// A word that may have a sign.
+#[inline(never)]
+fn read_other(built: &Built, word: &[u8]) -> Option<OrderWord>
     ensures { result ≡ option_map capped (order_of built.now word.now) }
 {
     let end = find_sign(word);
@@ -65,8 +87,7 @@ fn read_alone(built: &Built, word: &[u8]) -> Option<OrderWord>
 
 /// One turn, or one round, of the actor that a word spells.
 fn read_turn(built: &Built, word: &[u8]) -> Option<OrderWord>
-    ensures { result ≡ option_map (λ actor. OrderWord.Run actor (Until.Turns 1))
-        (option_map capped_actor (actor_of built.now word.now)) }
+    ensures { result ≡ turn_of (option_map capped_actor (actor_of built.now word.now)) }
 {
     let actor = read_actor(built, word)?;
     Some(OrderWord::Run(actor, Until::Turns(1)))
@@ -84,8 +105,8 @@ fn read_uninstall(built: &Built, number: &[u8]) -> Option<OrderWord>
 
 /// What stands before a sign, the sign, and what stands behind it.
 fn read_joined(built: &Built, before: &[u8], sign: u8, behind: &[u8]) -> Option<OrderWord>
-    ensures { result ≡ option_and_then (λ actor. option_and_then (run_of actor)
-        (option_map capped_until (until_of built.now sign behind.now))) (option_map capped_actor (actor_of built.now before.now)) }
+    ensures { result ≡ join (option_map capped_actor (actor_of built.now before.now))
+        (option_map capped_until (until_of built.now sign behind.now)) }
 {
     let actor = read_actor(built, before)?;
     let until = read_until(built, sign, behind)?;
@@ -222,8 +243,7 @@ pub fn push_orders(
     built: &Built,
     words: Words,
 ) -> Result<(), AllocError>
-    requires { filter_map (λ word. option_map capped (order_of built.now word)) words
-        ≡ filter_map (order_of built.now) words }
+    requires { AreKeptWhole built.now words }
     ensures { IfOk result (λ _. order.new.items ≡ order.old.items ++ filter_map (order_of built.now) words.entry) }
 {
     let mut words = words;

@@ -2,7 +2,7 @@ ghost use Rattle.std.specs.Prelude.{◌≡◌, ◌≤◌, take, length, IfOk, Is
 ghost use Rattle.kn_script.specs.Built.{AreBuilt};
 ghost use Rattle.kn_script.specs.Scripts.{Scripted};
 ghost use Rattle.kn_script.specs.Grammar.{Takes, IsText, IsTextToday, IsBad, IsBadToday, IfBad};
-ghost use Rattle.kn_script.specs.Good.{IsSound, IsGoodScript};
+ghost use Rattle.kn_script.specs.Good.{IsGoodProgress, IsGoodScript};
 ghost use Rattle.kn_script.specs.Reasons.{IsFirst};
 
 use crate::built::{Built, TODAY};
@@ -65,7 +65,7 @@ pub fn read_script(alloc: Global, built: &Built, bytes: &[u8]) -> Result<Script,
 
 /// Takes a good line into the progress.
 fn take_line(alloc: Global, progress: &mut Progress, line: &Line) -> Result<(), Fault>
-    requires { IsSound progress.old }
+    requires { IsGoodProgress progress.old }
     ensures taken { IfOk result (λ _. Takes progress.old line.now progress.new) }
     ensures bad { IfBad result (λ n why. (n ≡ line.now.number) × IsFirst progress.old line.now why) }
 {

@@ -1,9 +1,11 @@
 ghost use Rattle.std.specs.Prelude.{◌≡◌, ◌<◌, ◌≤◌, [], length, replicate, IfOk};
 ghost use Rattle.kn_script.specs.declared.orders.OrderWord.{OrderWord};
 ghost use Rattle.kn_script.specs.Progress.{values_of, start, behind, behind_header, behind_call, call_from, script_of};
-ghost use Rattle.kn_script.specs.Reasons.{is_closed, is_no_thread, is_no_fields, is_no_array, is_no_name, is_misfit, is_actor_outside, is_until_outside, is_order_outside, thread_reason, is_too_much, is_header_too_much, is_early, is_late, reasons_of};
+ghost use Rattle.kn_script.specs.Reasons.{is_closed, is_no_thread, is_no_fields, is_no_array, is_no_name, is_misfit, is_actor_outside};
+ghost use Rattle.kn_script.specs.Reasons.{is_until_outside, is_order_outside, thread_reason, is_too_much, is_header_too_much, is_early, is_late};
+ghost use Rattle.kn_script.specs.Reasons.{reasons_of};
 ghost use Rattle.kn_script.specs.Readings.{capped, IsSmallCall};
-ghost use Rattle.kn_script.specs.Good.{IsSound};
+ghost use Rattle.kn_script.specs.Good.{IsGoodProgress};
 
 use crate::built::{Built, FirstWord, HeaderWord};
 use crate::call_lines::make_call;
@@ -95,7 +97,7 @@ impl Progress {
 
     /// The script of the lines.
     pub fn into_script(self) -> Script
-        requires { IsSound self }
+        requires { IsGoodProgress self }
         ensures { result ≡ script_of self }
     {
         let Progress {
@@ -251,7 +253,7 @@ impl Progress {
 
     /// Adds what a line gives that meets no reason.
     pub fn add(&mut self, alloc: Global, read: Accepted, words: Words) -> Result<(), AllocError>
-        requires sound { IsSound self.old }
+        requires good { IsGoodProgress self.old }
         requires fits { reasons_of self.old read.word words ≡ [] }
         requires values { read.values ≡ values_of words }
         ensures { IfOk result (λ _. self.new ≡ behind self.old read.word words.entry) }
@@ -270,7 +272,7 @@ impl Progress {
         values: [u64; 6],
         words: Words,
     ) -> Result<(), AllocError>
-        requires sound { IsSound self.old }
+        requires good { IsGoodProgress self.old }
         requires fits { reasons_of self.old (FirstWord.Header word) words ≡ [] }
         requires values { values ≡ values_of words }
         ensures { IfOk result (λ _. self.new ≡ behind_header self.old word words.entry) }

@@ -1,11 +1,12 @@
-ghost use Rattle.std.specs.Prelude.{◌≡◌, ℕ, ◌^◌, ◌<◌, Some, List, [], length, slice_set, bytes_eq, ◌||◌, codes, MatchResult};
+ghost use Rattle.std.specs.Prelude.{◌≡◌, ℕ, ◌^◌, ◌<◌, Some, None, List, [], length, slice_set, bytes_eq, ◌||◌, codes, MatchResult};
 ghost use Rattle.kn_script.specs.Numbers.{number_of, value_of};
 ghost use Rattle.kn_script.specs.Built.{first_word_of};
 ghost use Rattle.kn_script.specs.Forms.{form_of, wanted_at};
-ghost use Rattle.kn_script.specs.Progress.{values_of};
-ghost use Rattle.kn_script.specs.Reasons.{when, earlier, first_of, reason_at, number_reason, reasons_of, reasons, IsFirst};
-ghost use Rattle.kn_script.specs.Readings.{IsReading};
-ghost use Rattle.kn_script.specs.Good.{IsSound};
+ghost use Rattle.kn_script.specs.Progress.{kind_of, values_of};
+ghost use Rattle.kn_script.specs.Reasons.{is_word, when, earlier, first_of, of_word, reason_at, number_reason, word_reasons, reasons_of, reasons};
+ghost use Rattle.kn_script.specs.Reasons.{IsFirst};
+ghost use Rattle.kn_script.specs.Readings.{IsReading, IsBegun, IsFurther};
+ghost use Rattle.kn_script.specs.Good.{IsGoodProgress};
 
 use crate::built::FirstWord;
 use crate::faults::Why;
@@ -34,9 +35,16 @@ pub struct Reading {
     pub count: usize,
 }
 
+/// What words meet, and how many were looked at.
+#[derive(Clone, Copy)]
+pub struct Further {
+    pub found: Option<Why>,
+    pub count: usize,
+}
+
 /// What is read of a line that meets no reason, or the first reason that it meets.
 pub fn judge(progress: &Progress, line: &Line) -> Result<Accepted, Why>
-    requires { IsSound progress.now }
+    requires { IsGoodProgress progress.now }
     ensures { MatchResult result
         (λ read. (first_word_of progress.now.built line.now.name ≡ Some read.word) × (read.values ≡ values_of line.now.arguments)
         × (reasons progress.now line.now ≡ []))
@@ -71,6 +79,9 @@ fn first_reason(
     requires read { IsReading progress.now form.now line.now.arguments read.now }
     ensures { result ≡ first_of (reasons_of progress.now word line.now.arguments) }
 {
+    if is_word(read.found) {
+        return Some(Why::Word);
+    }
     let late = earlier(when(progress.is_late(form), Why::Late), read.found);
     let early = earlier(when(progress.is_early(form), Why::Order), late);
     let counted = earlier(
@@ -89,76 +100,111 @@ fn first_reason(
     )
 }
 
-/// What words meet and spell.
+/// What words meet and spell. The words are gone through once.
 fn read_words(progress: &Progress, form: &Form, words: Words) -> Reading
-    requires sound { IsSound progress.now }
+    requires good { IsGoodProgress progress.now }
     requires few { length words < 2 ^ 64 }
     ensures { IsReading progress.now form.now words.entry result }
 {
     let mut words = words;
+    let first = read_first(progress, form, &mut words);
+    let further = look_further(progress, form.further, words);
+    let values = first.values;
+    Reading {
+        found: earlier(first.found, further.found),
+        values,
+        count: first.count + further.count,
+    }
+}
+
+/// What the words at the first places meet and spell, which are then passed.
+fn read_first(progress: &Progress, form: &Form, words: &mut Words) -> Reading
+    requires { IsGoodProgress progress.now }
+    ensures { IsBegun progress.now form.now words.old words.new result }
+{
     let mut found = None;
     let mut values = [0; 6];
-    let mut place = 0;
-    while let Some(word) = words.next_word() {
+    for place in 0..6 {
+        let Some(word) = words.next_word() else {
+            return Reading {
+                found,
+                values,
+                count: place,
+            };
+        };
         found = earlier(found, look_at(progress, form, place, word, &mut values));
-        place += 1;
     }
     Reading {
         found,
         values,
-        count: place,
+        count: 6,
     }
 }
 
 /// The first reason that a word meets at its place. What the word spells is kept among the values, 0
-/// where it is no number, unless its place is past the last one.
+/// where it is no number.
 fn look_at(
     progress: &Progress,
     form: &Form,
     place: usize,
     word: &[u8],
-    values: &mut [u64],
+    values: &mut [u64; 6],
 ) -> Option<Why>
-    requires { IsSound progress.now }
+    requires good { IsGoodProgress progress.now }
+    requires place { place < 6 }
     ensures reason { result ≡ reason_at progress.now (wanted_at form.now place) word.now }
     ensures values { values.new ≡ slice_set values.old place (value_of word.now) }
 {
-    if place < values.len() {
-        let number = read_number(word);
-        values[place] = number.unwrap_or(0);
-        reason_at(progress, form.place(place), word, number)
-    } else {
-        further_reason(progress, form.place(place), word)
+    let number = read_number(word);
+    values[place] = number.unwrap_or(0);
+    reason_at(progress, form.place(place), word, number)
+}
+
+/// The first reason that words meet, each at what is wanted there. Behind the reason `Word` nothing
+/// more is looked at.
+fn look_further(progress: &Progress, want: Wanted, words: Words) -> Further
+    requires good { IsGoodProgress progress.now }
+    requires few { length words < 2 ^ 64 }
+    ensures { IsFurther progress.now want words.entry result }
+{
+    let mut words = words;
+    let mut found = None;
+    let mut count = 0;
+    while let Some(word) = words.next_word() {
+        found = earlier(found, further_reason(progress, &want, word));
+        count += 1;
+        if is_word(found) {
+            break;
+        }
     }
+    Further { found, count }
 }
 
 /// The first reason that a word meets at what is wanted at its place. A number is read only where one
 /// is wanted.
-fn further_reason(progress: &Progress, want: Wanted, word: &[u8]) -> Option<Why>
-    requires { IsSound progress.now }
-    ensures { result ≡ reason_at progress.now want word.now }
+fn further_reason(progress: &Progress, want: &Wanted, word: &[u8]) -> Option<Why>
+    requires { IsGoodProgress progress.now }
+    ensures { result ≡ reason_at progress.now want.now word.now }
 {
-    match want {
+    match *want {
         Wanted::Untested => None,
+        Wanted::Kind => kind_reason(word),
         Wanted::Scheduled => scheduled_reason(progress, word),
-        _ => reason_at(progress, want, word, read_number(word)),
+        other => reason_at(progress, other, word, read_number(word)),
     }
 }
 
 /// The first reason that a word, which spells this number or none, meets at what is wanted at its
 /// place.
 fn reason_at(progress: &Progress, want: Wanted, word: &[u8], number: Option<u64>) -> Option<Why>
-    requires sound { IsSound progress.now }
+    requires good { IsGoodProgress progress.now }
     requires number { number ≡ number_of word.now }
     ensures { result ≡ reason_at progress.now want word.now }
 {
     match want {
         Wanted::Untested => None,
         Wanted::Shape => when(!is_shape(word), Why::Word),
-        Wanted::Kind => match read_kind(word) {
-            Some(_) => None,
-            None => Some(Why::Word),
-        },
+        Wanted::Kind => kind_reason(word),
         Wanted::Scheduled => scheduled_reason(progress, word),
         _ => match number {
             Some(number) => number_reason(progress, want, number),
@@ -167,9 +213,20 @@ fn reason_at(progress: &Progress, want: Wanted, word: &[u8], number: Option<u64>
     }
 }
 
+/// The reason that a word meets which is no kind.
+fn kind_reason(word: &[u8]) -> Option<Why>
+    ensures { result ≡ of_word (λ _. None) (kind_of word.now) }
+{
+    match read_kind(word) {
+        Some(_) => None,
+        None => Some(Why::Word),
+    }
+}
+
 /// The first reason that a word of the order meets.
+#[inline(always)]
 fn scheduled_reason(progress: &Progress, word: &[u8]) -> Option<Why>
-    requires { IsSound progress.now }
+    requires { IsGoodProgress progress.now }
     ensures { result ≡ reason_at progress.now Wanted.Scheduled word.now }
 {
     match read_order(progress.built(), word) {
@@ -195,6 +252,13 @@ fn number_reason(progress: &Progress, want: Wanted, number: u64) -> Option<Why>
         Wanted::Argument(argument) => when(progress.is_misfit(argument, number), Why::Range),
         Wanted::Thread => progress.thread_reason(number),
     }
+}
+
+/// Whether the reason is `Word`, before which none stands.
+fn is_word(found: Option<Why>) -> bool
+    ensures { result ≡ is_word found }
+{
+    matches!(found, Some(Why::Word))
 }
 
 /// The reason, where the test says so.

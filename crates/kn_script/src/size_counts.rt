@@ -1,5 +1,6 @@
-ghost use Rattle.std.specs.Prelude.{◌≡◌, ◌≤◌, length, sum_by, count_by};
-ghost use Rattle.kn_script.specs.Scripts.{is_birth, counts_of};
+ghost use Rattle.std.specs.Prelude.{◌≡◌, ◌≤◌, length, sum_by};
+ghost use Rattle.kn_graph.specs.Counts.{births_among};
+ghost use Rattle.kn_script.specs.Scripts.{counts_of};
 ghost use Rattle.kn_script.specs.Progress.{sizes_of};
 
 use crate::header_lines::{FrameSizes, NameCounts};
@@ -47,7 +48,7 @@ fn count_calls(threads: &[Calls]) -> [u32; 16]
 fn count_births(threads: &[Calls]) -> [u32; 16]
     requires threads { length threads.now ≤ MOST_THREADS }
     requires calls { sum_by length threads.now ≤ MOST_CALLS }
-    ensures { result ≡ counts_of (count_by is_birth) 16 threads.now }
+    ensures { result ≡ counts_of births_among 16 threads.now }
 {
     let mut counts = [0; 16];
     for (i, calls) in threads.iter().enumerate() {
@@ -59,7 +60,7 @@ fn count_births(threads: &[Calls]) -> [u32; 16]
 /// The number of calls that ask for a new object.
 fn births_among(calls: &[Call]) -> u32
     requires { length calls.now ≤ MOST_CALLS }
-    ensures { result ≡ count_by is_birth calls.now }
+    ensures { result ≡ births_among calls.now }
 {
     let births = calls
         .iter()

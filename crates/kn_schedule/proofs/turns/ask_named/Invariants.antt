@@ -1,5 +1,5 @@
 use Rattle.std.proofs.Common.{◌≡◌, ◌++◌, length, drop}
-use Rattle.kn_schedule.specs.Schedules.{left_behind, turns_taken}
+use Rattle.kn_schedule.specs.Left.{left_behind, turns_taken}
 use Rattle.kn_schedule.proofs.turns.ask_named.Given as goal
 
 -- what the threads that are left will take, behind what was taken, is what all of them take

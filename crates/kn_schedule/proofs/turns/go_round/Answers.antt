@@ -1,5 +1,6 @@
 use Rattle.std.proofs.Common.{◌∙◌, ℕ, List, length, length-set, ap, append_assoc, add-one}
-use Rattle.kn_schedule.specs.Schedules.{left_behind, threads_below, turn_of, turns_taken}
+use Rattle.kn_schedule.specs.Schedules.{threads_below}
+use Rattle.kn_schedule.specs.Left.{left_behind, turn_of, turns_taken}
 use Rattle.kn_schedule.proofs.Asking.{turns_more, left_more}
 use Rattle.kn_schedule.proofs.turns.go_round.Goals as goal
 

@@ -1,5 +1,6 @@
 use Rattle.std.proofs.Common.{◌≡◌, ◌++◌, length}
-use Rattle.kn_schedule.specs.Schedules.{left_behind, threads_below, turns_taken}
+use Rattle.kn_schedule.specs.Schedules.{threads_below}
+use Rattle.kn_schedule.specs.Left.{left_behind, turns_taken}
 use Rattle.kn_schedule.proofs.turns.go_round.Given as goal
 
 abbrev pub invariant-loop-thread : goal.invariant-loop-thread

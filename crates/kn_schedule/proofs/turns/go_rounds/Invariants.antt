@@ -1,5 +1,6 @@
 use Rattle.std.proofs.Common.{◌≡◌, ◌++◌, length, ◌-◌}
-use Rattle.kn_schedule.specs.Schedules.{rounds, turns_taken}
+use Rattle.kn_schedule.specs.Schedules.{rounds}
+use Rattle.kn_schedule.specs.Left.{turns_taken}
 use Rattle.kn_schedule.proofs.turns.go_rounds.Given as goal
 
 -- the turns of the rounds that are left, behind those taken, are those of all rounds

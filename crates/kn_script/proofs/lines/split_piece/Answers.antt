@@ -6,7 +6,8 @@ use Rattle.kn_script.proofs.lines.split_piece.Goals as goal
 pub returns-then-end-bytes-clause-first : goal.returns-then-end-bytes-clause-first
 returns-then-end-bytes-clause-first c =
     let bytes = c.args.bytes.now in
-    let split = pieces_at-split c.args.separator bytes c.find_byte-end.result (omega arith) c.find_byte-end.ensures.before (c.find_byte-end.ensures.found (omega arith)) in
+    let found = c.find_byte-end.ensures.found (omega arith) in
+    let split = pieces_at-split c.args.separator bytes c.find_byte-end.result (omega arith) c.find_byte-end.ensures.before found in
     rw (take_rest, add-one) split
 
 pub returns-else-end-bytes-clause-first : goal.returns-else-end-bytes-clause-first

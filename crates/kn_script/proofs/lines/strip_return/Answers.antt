@@ -4,11 +4,15 @@ use Rattle.kn_script.proofs.lines.strip_return.Goals as goal
 use Rattle.kn_script.proofs.lines.strip_return.Goals.{else-end-gt0-via-then-end-gt0+else-line-end-eq13, else-end-gt0-via-else-end-gt0}
 
 pub returns-then-line-end-eq13 : goal.returns-then-line-end-eq13
-returns-then-line-end-eq13 c = without_return-at c.args.line.now (length c.args.line.now - 1) (omega arith) c.if-line-end-eq13.true
+returns-then-line-end-eq13 c =
+    let line = c.args.line.now in
+    without_return-at line (length line - 1) (omega arith) c.if-line-end-eq13.true
 
 pub returns-else-end-gt0 : goal.returns-else-end-gt0
 returns-else-end-gt0 c =
+    let line = c.args.line.now in
     elim c.else-end-gt0.branch [
-      | else-end-gt0-via-then-end-gt0+else-line-end-eq13 w ↦ without_return-without c.args.line.now (length c.args.line.now - 1) (omega arith) w.if-line-end-eq13.false
-      | else-end-gt0-via-else-end-gt0 w ↦ without_return-none c.args.line.now (omega arith)
+      | else-end-gt0-via-then-end-gt0+else-line-end-eq13 w ↦
+          without_return-without line (length line - 1) (omega arith) w.if-line-end-eq13.false
+      | else-end-gt0-via-else-end-gt0 w ↦ without_return-none line (omega arith)
     ]

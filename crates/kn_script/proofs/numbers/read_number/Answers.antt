@@ -22,7 +22,8 @@ returns-in_err-value c =
     let step = at_drop_more (value_from l.value) word l.byte-index 0 (omega arith) in
     let least = value_from-at_least (10 * l.value + (get_or word l.byte-index 0 - 48)) (drop (l.byte-index + 1) word) in
     let wraps : 2 ^ 64 ≤ c.in_ok-checked_mul.field-0 + c.from.result = omega (arith, c.in_err-value.ensures) in
-    c.from_residual-in_err-value.ensures ∙ sym (number_of-large word (omega (arith, l.invariant.0, step, least, wraps, c.in_ok-checked_mul.ensures, c.from.ensures)))
+    let large : 2 ^ 64 ≤ value_from 0 word = omega (arith, l.invariant.0, step, least, wraps, c.in_ok-checked_mul.ensures, c.from.ensures) in
+    c.from_residual-in_err-value.ensures ∙ sym (number_of-large word large)
 
 pub returns : goal.returns
 returns c =

@@ -5,4 +5,6 @@ use Rattle.kn_script.proofs.numbers.read_number.Given as goal
 
 abbrev pub invariant-loop-byte : goal.invariant-loop-byte
 invariant-loop-byte l =
-    (value_from l.value (drop l.byte-index l.word) ≡ value_from 0 l.word) × (list_all is_digit (drop l.byte-index l.word) ≡ list_all is_digit l.word) × (l.value < 2 ^ 64)
+    (value_from l.value (drop l.byte-index l.word) ≡ value_from 0 l.word)
+    × (list_all is_digit (drop l.byte-index l.word) ≡ list_all is_digit l.word)
+    × (l.value < 2 ^ 64)

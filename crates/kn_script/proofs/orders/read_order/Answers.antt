@@ -1,19 +1,7 @@
-use Rattle.std.proofs.Common.{suc, take, drop, get_or, arith, add-one}
-use Rattle.std.proofs.lemmas.List.{take_rest}
-use Rattle.kn_script.specs.Orders.{order_of, actor_of, until_of}
-use Rattle.kn_script.proofs.OrderLemmas.{cut_of-split, cut_of-whole, joined-capped}
+use Rattle.std.proofs.Common.{sym}
+use Rattle.kn_script.proofs.OrderLemmas.{order_of-number}
 use Rattle.kn_script.proofs.orders.read_order.Goals as goal
 
-pub returns-then-end-word : goal.returns-then-end-word
-unfolding order_of
-returns-then-end-word c =
-    let word = c.args.word.now in
-    let split = cut_of-split word c.find_sign-end.result (omega arith) c.find_sign-end.ensures.before (c.find_sign-end.ensures.found (omega arith)) in
-    let i = c.find_sign-end.result in
-    rw (split, c.read_joined.ensures, take_rest, add-one) (joined-capped (actor_of c.args.built.now (take i word)) (until_of c.args.built.now (get_or word i 0) (drop (suc i) word)))
-
-pub returns-else-end-word : goal.returns-else-end-word
-unfolding order_of
-returns-else-end-word c =
-    let whole = cut_of-whole c.args.word.now (λ k below. c.find_sign-end.ensures.before k (omega arith)) in
-    rw whole c.read_alone.ensures
+pub returns-in-Some : goal.returns-in-Some
+returns-in-Some c =
+    rw (order_of-number c.args.built.now c.args.word.now c.in-Some.number (sym c.in-Some.ensures)) c.turn_of_thread.ensures

@@ -3,7 +3,7 @@ use Rattle.kn_script.specs.declared.faults.Why.TheVariants.{Count}
 use Rattle.kn_script.specs.Progress.{start}
 use Rattle.kn_script.specs.Grammar.{IsText, IsBad, IfBad}
 use Rattle.kn_script.proofs.GrammarLemmas.{Behind-more, IsText-one, IsText-not_bad, bad-no_text}
-use Rattle.kn_script.proofs.GoodLemmas.{Takes-sound, texts_are_good}
+use Rattle.kn_script.proofs.GoodLemmas.{Takes-good, texts_are_good}
 use Rattle.kn_script.proofs.BuiltLemmas.{texts_are_built}
 use Rattle.kn_script.proofs.parser.read_script.Goals as goal
 
@@ -28,11 +28,17 @@ returns-clause-good c =
     texts_are_good c.args.built.now c.into_script.result c.args.bytes.now said
 
 pub loop-line-preserved : goal.loop-line-preserved
-loop-line-preserved c = record {
-  read = Behind-more (start c.args.built.now) _ c.loop-line.lines.left c.next_line.new.self.left _ c.loop-line.progress c.take_line.new.progress c.in-Some.line c.loop-line.invariant.read c.in-Some.ensures.left c.in_ok-take_line.ensures.taken;
-  end = c.in-Some.ensures.end ∙ c.loop-line.invariant.end;
-  sound = Takes-sound c.loop-line.progress c.take_line.new.progress c.in-Some.line c.loop-line.invariant.sound c.in_ok-take_line.ensures.taken;
-}
+loop-line-preserved c =
+    let l = c.loop-line in
+    let next = c.take_line.new.progress in
+    let line = c.in-Some.line in
+    let left = c.in-Some.ensures.left in
+    let taken = c.in_ok-take_line.ensures.taken in
+    record {
+      read = Behind-more (start c.args.built.now) _ l.lines.left c.next_line.new.self.left _ l.progress next line l.invariant.read left taken;
+      end = c.in-Some.ensures.end ∙ l.invariant.end;
+      good = Takes-good l.progress next line l.invariant.good taken;
+    }
 
 pub returns-clause-words : goal.returns-clause-words
 returns-clause-words c =

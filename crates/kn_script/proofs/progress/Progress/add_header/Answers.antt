@@ -1,17 +1,19 @@
-use Rattle.std.proofs.Common.{◌≡◌, ◌<◌, ◌≤◌, [], List, ℕ, length, get_or, ap, subst, arith}
+use Rattle.std.proofs.Common.{◌≡◌, ◌<◌, ◌≤◌, [], List, ℕ, length, get_or, ap, arith}
 use Rattle.kn_script.specs.declared.built.HeaderWord.{HeaderWord}
 use Rattle.kn_script.specs.declared.built.HeaderWord.TheVariants.{Heap, Names, Thread, Order}
 use Rattle.kn_script.specs.declared.built.FirstWord.TheVariants.{Header}
 use Rattle.kn_script.specs.Numbers.{value_at}
 use Rattle.kn_script.specs.Scripts.{Progress}
 use Rattle.kn_script.specs.Progress.{values_of}
-use Rattle.kn_script.specs.Reasons.{reasons_of}
-use Rattle.kn_script.proofs.FitLemmas.{MeetsNone, MeetsNone-from, MeetsNone-count, MeetsNone-stage, MeetsNone-thread, MeetsNone-heap, MeetsNone-names}
+use Rattle.kn_script.specs.Reasons.{reasons_of, MeetsNone}
+use Rattle.kn_script.proofs.ReasonLemmas.{MeetsNone-from}
+use Rattle.kn_script.proofs.FitLemmas.{MeetsNone-count, MeetsNone-stage, MeetsNone-thread, MeetsNone-heap, MeetsNone-names}
 use Rattle.kn_script.proofs.OrderLemmas.{orders-fit, orders-same}
 use Rattle.kn_script.proofs.progress.Progress.add_header.Goals as goal
 
-meets : (p : Progress) (word known : HeaderWord) (words : List (List ℕ)) → word ≡ known → reasons_of p (Header word) words ≡ [] → MeetsNone p (Header known) words
-meets p word known words is none = MeetsNone-from p (Header known) words (subst (λ w. reasons_of p (Header w) words ≡ []) is none)
+meets : (p : Progress) (word known : HeaderWord) (words : List (List ℕ)) → word ≡ known → reasons_of p (Header word) words ≡ [] →
+    MeetsNone p (Header known) words
+meets p word known words is none = MeetsNone-from p (Header word) (Header known) words (ap (λ w. Header w) is) none
 
 pub from_values-self-inside-requires : goal.from_values-self-inside-requires
 from_values-self-inside-requires c =
@@ -24,7 +26,8 @@ from_values-self-inside-requires-in-Names c =
     rw c.requires.values (MeetsNone-names c.args.self.now c.args.words none)
 
 -- the number of a thread is small
-thread-small : (p : Progress) (words : List (List ℕ)) (values : List ℕ) → length p.threads ≤ 16 → MeetsNone p (Header Thread) words → values ≡ values_of words → get_or values 0 0 < 16
+thread-small : (p : Progress) (words : List (List ℕ)) (values : List ℕ) → length p.threads ≤ 16 → MeetsNone p (Header Thread) words →
+    values ≡ values_of words → get_or values 0 0 < 16
 thread-small p words values few none same =
     let count = MeetsNone-count p (Header Thread) words none in
     let there = MeetsNone-thread p words none (omega arith) (MeetsNone-stage p (Header Thread) words none).0 in
@@ -34,13 +37,13 @@ thread-small p words values few none same =
 pub overflow_cast-self : goal.overflow_cast-self
 overflow_cast-self c =
     let none = meets c.args.self.now c.args.word Thread c.args.words c.in-Thread.is c.requires.fits in
-    let small = thread-small c.args.self.now c.args.words c.args.values c.requires.sound.threads.few none c.requires.values in
+    let small = thread-small c.args.self.now c.args.words c.args.values c.requires.good.threads.few none c.requires.values in
     omega (arith, small)
 
 pub overflow_add-self : goal.overflow_add-self
 overflow_add-self c =
     let none = meets c.args.self.now c.args.word Thread c.args.words c.in-Thread.is c.requires.fits in
-    let small = thread-small c.args.self.now c.args.words c.args.values c.requires.sound.threads.few none c.requires.values in
+    let small = thread-small c.args.self.now c.args.words c.args.values c.requires.good.threads.few none c.requires.values in
     omega (arith, small)
 
 pub push_orders-requires : goal.push_orders-requires
@@ -49,4 +52,5 @@ push_orders-requires c =
     let none = meets p c.args.word Order c.args.words c.in-Order.is c.requires.fits in
     let built = ap (λ (q : Progress). q.built) c.self.view_is in
     let stage = MeetsNone-stage p (Header Order) c.args.words none in
-    rw built (orders-same p.built (length p.threads) c.args.words c.requires.sound.threads.few (orders-fit p 0 c.args.words stage.0 none.at))
+    let fit = orders-fit p 0 c.args.words stage.0 none.places in
+    rw built (orders-same p.built (length p.threads) c.args.words c.requires.good.threads.few fit)

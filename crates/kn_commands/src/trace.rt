@@ -1,0 +1,134 @@
+ghost use Rattle.std.specs.Prelude.{◌≡◌, Some, None, IfOk, IfErr, OnOk, string_bytes};
+ghost use Rattle.std.specs.Option.{option_map};
+ghost use Rattle.kn_io.specs.Counts.{Rose, NeverFalls};
+ghost use Rattle.kn_io.specs.Devices.{seen};
+ghost use Rattle.kn_io.specs.Told.{GivesSome};
+ghost use Rattle.kn_report.specs.Reports.{line};
+ghost use Rattle.kn_script.specs.Good.{IsGoodScript};
+ghost use Rattle.kn_commands.specs.Runs.{AreAnswerable};
+ghost use Rattle.kn_commands.specs.Ends.{IsFinished, IsRead, IsSilent, IsTraceEnd, IsUnread, Refuses, Writes};
+
+use crate::cells::Cells;
+use crate::refusals::refusal_line;
+use crate::runs::{Made, run};
+use crate::status::Status;
+use kn_base::LONGEST_TEXT;
+use kn_io::{ReadEnd, Sink, Source, read_all, write_all};
+use kn_script::{Fault, Script, Why, parse};
+use std::alloc::Global;
+
+/// How a trace ended, and the cells of its run. They are there exactly with `Ok`, `Spent` and
+/// `WriteFault`.
+#[derive(Drop)]
+pub struct TraceEnd {
+    pub status: Status,
+    pub cells: Option<Cells>,
+}
+
+/// Writes a text. Where the sink fails a prefix of it went out.
+pub fn write_text<K: Sink>(sink: &mut K, text: &[u8])
+    ensures writes { Writes text.now (K.held sink.old) (K.held sink.new) (K.faults sink.old) (K.faults sink.new) }
+    ensures flushed { (Rose (K.faults sink.old) (K.faults sink.new) → ⊥) → K.is_flushed sink.new }
+    ensures count { NeverFalls (K.faults sink.old) (K.faults sink.new) }
+{
+    let _ = write_all(sink, text);
+}
+
+/// Reads a script to its end.
+fn read_script<S: Source>(alloc: Global, source: &mut S) -> Result<Script, Status>
+    ensures good { IfOk result IsGoodScript }
+    ensures answerable { IfOk result (λ script. AreAnswerable script.threads) }
+    ensures read { IfOk result (λ script. IsRead script (S.left source.old) (S.left source.new)) }
+    ensures unread { IfErr result (λ status. IsUnread status
+        (S.left source.old) (S.left source.new) (S.faults source.old) (S.faults source.new)) }
+    ensures ok_without_fault { OnOk result (S.faults source.new ≡ S.faults source.old) }
+    ensures left { GivesSome (S.left source.old) (S.left source.new) }
+    ensures count { NeverFalls (S.faults source.old) (S.faults source.new) }
+{
+    let bytes = match read_all(alloc, source, LONGEST_TEXT) {
+        Ok(bytes) => bytes,
+        Err(ReadEnd::Failed) => return Err(Status::ReadFault),
+        Err(ReadEnd::TooLong { line }) => {
+            return Err(Status::Script {
+                line,
+                why: Why::Long,
+            });
+        }
+        Err(ReadEnd::Memory) => return Err(Status::Memory),
+    };
+    match parse(alloc, &bytes) {
+        Ok(script) => Ok(script),
+        Err(Fault::Bad { line, why }) => Err(Status::Script { line, why }),
+        Err(Fault::Memory) => Err(Status::Memory),
+    }
+}
+
+/// Ends a trace that has no script. Only a bad script is told.
+fn refuse<K: Sink>(sink: &mut K, status: Status) -> TraceEnd
+    ensures status { result.status ≡ status }
+    ensures none { result.cells ≡ None }
+    ensures told { Refuses status (K.held sink.old) (K.held sink.new) (K.faults sink.old) (K.faults sink.new) }
+    ensures silent { IsSilent status → sink.new ≡ sink.old }
+    ensures count { NeverFalls (K.faults sink.old) (K.faults sink.new) }
+{
+    if let Status::Script { line, why } = status {
+        write_text(sink, refusal_line(line, why).as_str().as_bytes());
+    }
+    TraceEnd {
+        status,
+        cells: None,
+    }
+}
+
+/// Ends a trace whose run was made.
+fn finish<K: Sink>(sink: &mut K, made: Made) -> TraceEnd
+    ensures cells { result.cells ≡ Some made.cells }
+    ensures finished { IsFinished result.status (option_map string_bytes made.report)
+        (K.held sink.old) (K.held sink.new) (K.faults sink.old) (K.faults sink.new) }
+    ensures flushed { result.status ≡ Status.Ok → K.is_flushed sink.new }
+    ensures count { NeverFalls (K.faults sink.old) (K.faults sink.new) }
+{
+    let Made { cells, report } = made;
+    let status = match report {
+        Some(text) => write_report(sink, text.as_bytes()),
+        None => {
+            write_text(sink, b"turns spent\n");
+            Status::Spent
+        }
+    };
+    TraceEnd {
+        status,
+        cells: Some(cells),
+    }
+}
+
+/// Writes the report of a run.
+fn write_report<K: Sink>(sink: &mut K, text: &[u8]) -> Status
+    ensures finished { IsFinished result (Some text.now)
+        (K.held sink.old) (K.held sink.new) (K.faults sink.old) (K.faults sink.new) }
+    ensures flushed { result ≡ Status.Ok → K.is_flushed sink.new }
+    ensures count { NeverFalls (K.faults sink.old) (K.faults sink.new) }
+{
+    match write_all(sink, text) {
+        Ok(()) => Status::Ok,
+        Err(_) => Status::WriteFault,
+    }
+}
+
+/// Reads a script, runs it, and writes its report (`IsTraceEnd` in `specs/Ends.antt`). Where the
+/// source fails or memory runs out the sink is not touched.
+pub fn run_trace<S: Source, K: Sink>(alloc: Global, source: &mut S, sink: &mut K) -> TraceEnd
+    ensures end { IsTraceEnd (seen S.left S.faults K.held K.faults source.old sink.old)
+        (seen S.left S.faults K.held K.faults source.new sink.new) result.status result.cells }
+    ensures flushed { result.status ≡ Status.Ok → K.is_flushed sink.new }
+    ensures untouched { IsSilent result.status → sink.new ≡ sink.old }
+{
+    let script = match read_script(alloc, source) {
+        Ok(script) => script,
+        Err(status) => return refuse(sink, status),
+    };
+    match run(alloc, &script) {
+        Ok(made) => finish(sink, made),
+        Err(_) => refuse(sink, Status::Memory),
+    }
+}

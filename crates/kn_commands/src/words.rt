@@ -1,0 +1,68 @@
+ghost use Rattle.std.specs.Prelude.{◌≡◌, ◌↔◌, [], ◌∷◌, IsTrue, map};
+ghost use Rattle.kn_io.specs.Devices.{seen};
+ghost use Rattle.kn_commands.specs.Words.{AskTrace, without_dashes};
+ghost use Rattle.kn_commands.specs.Ends.{IsSilent, IsTraceEnd, IsUsageEnd};
+
+use crate::status::Status;
+use crate::trace::{TraceEnd, run_trace, write_text};
+use kn_io::{Sink, Source};
+use std::alloc::Global;
+
+/// Whether there is one word, and it is this one.
+fn is_only(words: &[&str], text: &str) -> bool
+    ensures { IsTrue result ↔ (map (λ word. word.now) words.now ≡ text.now ∷ []) }
+{
+    match words.split_first() {
+        Some((word, rest)) => *word == text && rest.is_empty(),
+        None => false,
+    }
+}
+
+/// Whether no word is left without the first `--`.
+fn is_nothing(words: &[&str]) -> bool
+    ensures { IsTrue result ↔ (without_dashes (map (λ word. word.now) words.now) ≡ []) }
+{
+    match words.split_first() {
+        Some((word, rest)) => *word == "--" && rest.is_empty(),
+        None => true,
+    }
+}
+
+/// Whether the words ask for a trace. The first `--` is dropped, wherever it stands.
+fn ask_trace(words: &[&str]) -> bool
+    ensures { IsTrue result ↔ AskTrace (map (λ word. word.now) words.now) }
+{
+    match words.split_first() {
+        Some((word, rest)) if *word == "--" => is_only(rest, "trace"),
+        Some((word, rest)) => *word == "trace" && is_nothing(rest),
+        None => false,
+    }
+}
+
+/// Does what the program's words ask for: a trace (`IsTraceEnd` in `specs/Ends.antt`), or, where they
+/// are none of the forms, the usage line (`IsUsageEnd` there), and then the source is not touched.
+pub fn run_words<S: Source, K: Sink>(
+    alloc: Global,
+    words: &[&str],
+    source: &mut S,
+    sink: &mut K,
+) -> TraceEnd
+    ensures trace { AskTrace (map (λ word. word.now) words.now) → IsTraceEnd
+        (seen S.left S.faults K.held K.faults source.old sink.old)
+        (seen S.left S.faults K.held K.faults source.new sink.new) result.status result.cells }
+    ensures usage { (AskTrace (map (λ word. word.now) words.now) → ⊥) → IsUsageEnd
+        (seen S.left S.faults K.held K.faults source.old sink.old)
+        (seen S.left S.faults K.held K.faults source.new sink.new) result.status result.cells }
+    ensures unread { (AskTrace (map (λ word. word.now) words.now) → ⊥) → source.new ≡ source.old }
+    ensures flushed { result.status ≡ Status.Ok → K.is_flushed sink.new }
+    ensures untouched { IsSilent result.status → sink.new ≡ sink.old }
+{
+    if ask_trace(words) {
+        return run_trace(alloc, source, sink);
+    }
+    write_text(sink, b"usage: kn_run trace | run | gen N\n");
+    TraceEnd {
+        status: Status::Usage,
+        cells: None,
+    }
+}

@@ -1,0 +1,237 @@
+use kn_base::Span;
+use kn_commands::{Status, exit_of, run_trace, run_words};
+use kn_io::{MemSink, MemSource};
+use kn_script::Why;
+use std::alloc::{AllocError, Global};
+use std::process::ExitCode;
+use std::test::Fail;
+
+const SCRIPT: &str =
+    "heap 1 64 0 64 0 2\nnames 0 0 0 0\nlayout fields ref int\nthreads 1\nthread 0\nnew 0 0\nsame 0 0\n";
+
+const USAGE: &str = "usage: kn_run trace | run | gen N\n";
+
+/// What a report says behind the number of its calls.
+const TAIL: &str = "epochs 0\nreleased 0\nqueued 0\nfinalized 0\nend\n";
+
+const PAIRS: &str =
+    "heap 1 64 0 64 1 16\nnames 1 1 1 1\nlayout fields ref int\nthreads 1\nthread 0\n";
+
+const NUMBERS: &str =
+    "heap 1 64 0 64 1 16\nnames 1 1 1 1\nlayout fields int int int\nthreads 1\nthread 0\n";
+
+const SINGLES: &str =
+    "heap 1 64 0 64 1 16\nnames 1 1 1 1\nlayout fields int\nthreads 1\nthread 0\n";
+
+const SEVENS: &str =
+    "heap 2 32 0 64 0 2\nnames 0 0 0 0\nlayout fields ref int ref int ref int ref int ref int ref int ref int\nthreads 1\nthread 0\n";
+
+const ARRAYS: &str =
+    "heap 4 64 0 64 0 2\nnames 0 0 0 0\nlayout array ref\nlayout array int\nthreads 1\nthread 0\n";
+
+/// Threads that meet in a global, and the order of their turns.
+const MEETING: &str = "heap 2 64 0 64 0 2\nnames 1 0 0 0\nlayout fields ref int\nthreads 3\n\
+    thread 0\nnew 0 0\nput 0 1 7\ngset 0 0\n\
+    thread 2\ngget 0 0\nread 0 1\ngget 1 0\nsame 0 1\n";
+
+/// The exit number and what was written, with devices of pieces of 8 bytes whose calls of these
+/// numbers fail.
+fn traced(
+    alloc: Global,
+    script: &str,
+    reads: &[u32],
+    writes: &[u32],
+) -> Result<(u8, Vec<u8>), AllocError> {
+    let mut source = MemSource::open(alloc, script.as_bytes(), 8, reads)?;
+    let mut sink = MemSink::open(alloc, 1000, 8, writes)?;
+    let status = run_trace(alloc, &mut source, &mut sink).status;
+    let text = sink.held().to_vec(alloc)?;
+    Ok((status.number(), text))
+}
+
+/// So many pieces, one behind another.
+fn repeated(alloc: Global, piece: &str, count: usize) -> Result<String, AllocError> {
+    let mut text = String::new(alloc);
+    for _ in 0..count {
+        text.push_str(piece)?;
+    }
+    Ok(text)
+}
+
+#[test]
+fn scripts_are_traced(rt: HostRuntime) -> Result<(), Fail> {
+    let births = repeated(rt.alloc(), "new 0 0\n", 33)?;
+    let oks = repeated(rt.alloc(), "ok\n", 32)?;
+    let filled = format!(in rt.alloc(); "thread 0\n{oks}full\ncalls 33\n")?;
+    let table = [
+        (SCRIPT, "", "thread 0\nok\nyes\ncalls 2\n"),
+        (PAIRS, "", "thread 0\ncalls 0\n"),
+        (
+            PAIRS,
+            "new 0 0\ncopy 2 0\nget 0 1 0\nsame 0 2",
+            "thread 0\nok\nok\nnil\nyes\ncalls 4\n",
+        ),
+        (
+            NUMBERS,
+            "new 0 0\nput 0 2 9\nread 0 2\nput 0 3 1\nread 0 3\nget 1 0 0",
+            "thread 0\nok\nok\nint 9\nnofield\nnofield\nkind\ncalls 6\n",
+        ),
+        (
+            SEVENS,
+            "new 0 0\nnew 1 0\nnew 2 0\nnew 3 0\nnew 4 0\nsame 4 5\ncopy 6 0\nsame 6 0\nclear 6\nsame 6 0",
+            "thread 0\nok\nok\nok\nok\nfull\nyes\nok\nyes\nok\nno\ncalls 10\n",
+        ),
+        (
+            ARRAYS,
+            "newa 0 0 63\nnewa 1 1 64\nnewa 1 1 2\n\
+             set 0 62 1\nset 0 63 1\nset 0 0 15\nget 2 0 62\nsame 2 1\nget 2 0 0\n\
+             put 1 1 18446744073709551615\nread 1 1\nread 1 0\nset 1 0 0\nclear 0\nget 3 0 99\n",
+            "thread 0\nok\nfull\nok\nok\nnofield\nok\nref\nyes\nnull\nok\nint 18446744073709551615\nint 0\nkind\nok\nnil\ncalls 15\n",
+        ),
+        (
+            MEETING,
+            "",
+            "thread 0\nok\nok\nok\nthread 1\nthread 2\nnull\nnil\nref\nno\ncalls 7\n",
+        ),
+        (
+            MEETING,
+            "order 0 0 0 0 1 2\norder 2",
+            "thread 0\nok\nok\nok\nthread 1\nthread 2\nref\nint 7\nref\nyes\ncalls 7\n",
+        ),
+        (SINGLES, births.as_str(), filled.as_str()),
+    ];
+    for (before, calls, wanted) in table {
+        let script = format!(in rt.alloc(); "{before}{calls}")?;
+        let report = format!(in rt.alloc(); "{wanted}{TAIL}")?;
+        let (number, text) = traced(rt.alloc(), script.as_str(), &[], &[])?;
+        assert!(rt;
+            number == 0 && text.as_slice() == report.as_bytes(),
+            "{calls}"
+        );
+    }
+    Ok(())
+}
+
+#[test]
+fn births_take_the_next_room(rt: HostRuntime) -> Result<(), Fail> {
+    let births = repeated(rt.alloc(), "new 0 0\n", 5)?;
+    let script = format!(in rt.alloc(); "{SEVENS}{births}")?;
+    let mut source = MemSource::open(rt.alloc(), script.as_bytes(), 64, &[])?;
+    let mut sink = MemSink::open(rt.alloc(), 1000, 64, &[])?;
+    let end = run_trace(rt.alloc(), &mut source, &mut sink);
+    let cells = end.cells.ok_or("no cells")?;
+    let spans = [
+        Span { start: 1, len: 15 },
+        Span { start: 16, len: 15 },
+        Span { start: 33, len: 15 },
+        Span { start: 48, len: 15 },
+    ];
+    assert!(rt; cells.born() == spans.as_slice() && cells.history().len() == 5);
+    Ok(())
+}
+
+#[test]
+fn scripts_are_refused(rt: HostRuntime) -> Result<(), Fail> {
+    let head = "heap 1 64 0 64 0 2\nnames 0 0 0 0\nlayout fields ref int\n";
+    let longest = repeated(rt.alloc(), "#", 1_048_576)?;
+    let longer = repeated(rt.alloc(), "#", 1_048_577)?;
+    let table = [
+        ("", "", "line 1 count\n"),
+        ("", "heap 256 65536 0 32 0 2\n", "line 1 range\n"),
+        ("", "names 0 0 0 0\n", "line 1 order\n"),
+        (head, "threads 1\nthreads 1\n", "line 5 late\n"),
+        (
+            head,
+            "threads 1\nturns 18446744073709551616\n",
+            "line 5 number\n",
+        ),
+        (SCRIPT, "\0", "line 8 word\n"),
+        ("", longest.as_str(), "line 2 count\n"),
+        ("", longer.as_str(), "line 1 long\n"),
+    ];
+    for (before, behind, line) in table {
+        let script = format!(in rt.alloc(); "{before}{behind}")?;
+        let (number, text) = traced(rt.alloc(), script.as_str(), &[], &[])?;
+        assert!(rt; number == 2 && text.as_slice() == line.as_bytes(), "{line}");
+    }
+    Ok(())
+}
+
+#[test]
+fn turns_are_spent(rt: HostRuntime) -> Result<(), Fail> {
+    let table = [(1, 3), (2, 0), (3, 0)];
+    for (turns, wanted) in table {
+        let script = format!(in rt.alloc();
+            "heap 1 64 0 64 0 2\nnames 0 0 0 0\nlayout fields ref int\nthreads 1\nturns {turns}\nthread 0\nnew 0 0\nsame 0 0\n"
+        )?;
+        let (number, text) = traced(rt.alloc(), script.as_str(), &[], &[])?;
+        let is_told = text.as_slice() == b"turns spent\n".as_slice();
+        assert!(rt; number == wanted && is_told == (wanted == 3));
+    }
+    Ok(())
+}
+
+#[test]
+fn faults_of_devices_are_answered(rt: HostRuntime) -> Result<(), Fail> {
+    let table: [(&[u32], &[u32], u8, &str); 6] = [
+        (&[1], &[], 4, ""),
+        (&[2], &[], 4, ""),
+        (&[12], &[], 4, ""),
+        (&[], &[1], 5, ""),
+        (&[], &[2], 5, "thread 0"),
+        (
+            &[],
+            &[9],
+            5,
+            "thread 0\nok\nyes\ncalls 2\nepochs 0\nreleased 0\nqueued 0\nfinalized 0",
+        ),
+    ];
+    for (reads, writes, wanted, held) in table {
+        let (number, text) = traced(rt.alloc(), SCRIPT, reads, writes)?;
+        assert!(rt; number == wanted && text.as_slice() == held.as_bytes());
+    }
+    Ok(())
+}
+
+#[test]
+fn words_are_judged(rt: HostRuntime) -> Result<(), Fail> {
+    let forms: [(&[&str], u8); 9] = [
+        (&["trace"], 0),
+        (&["--", "trace"], 0),
+        (&["trace", "--"], 0),
+        (&[], 1),
+        (&["--"], 1),
+        (&["trace", "x"], 1),
+        (&["--help"], 1),
+        (&["gen", "0"], 1),
+        (&["--", "--", "trace"], 1),
+    ];
+    for (words, number) in forms {
+        let mut source = MemSource::open(rt.alloc(), SCRIPT.as_bytes(), 64, &[])?;
+        let mut sink = MemSink::open(rt.alloc(), 1000, 64, &[])?;
+        let status = run_words(rt.alloc(), words, &mut source, &mut sink).status;
+        let is_usage = sink.held() == USAGE.as_bytes();
+        assert!(rt; status.number() == number && is_usage == (number == 1));
+    }
+    Ok(())
+}
+
+#[test]
+fn statuses_have_their_numbers(rt: HostRuntime) {
+    let bad = Status::Script {
+        line: 1,
+        why: Why::Count,
+    };
+    let numbers = [
+        (Status::Ok, 0),
+        (Status::Usage, 1),
+        (bad, 2),
+        (Status::Spent, 3),
+        (Status::ReadFault, 4),
+        (Status::WriteFault, 5),
+        (Status::Memory, 6),
+    ];
+    for (status, number) in numbers {
+        assert!(rt; exit_of(Ok(status)) == ExitCode::from(number));
+    }
+}

@@ -1,6 +1,0 @@
-use Rattle.kn_graph.specs.Replay.{graph_of}
-use Rattle.kn_graph.proofs.Pausing.{condemns_unmarked}
-use Rattle.kn_graph.proofs.graph.Graph.condemn_unreachable.Goals as goal
-
-pub returns-clause-condemns : goal.returns-clause-condemns
-returns-clause-condemns c = condemns_unmarked (graph_of c.args.self.now) c.reachable.new.marks c.reachable.ensures.marked

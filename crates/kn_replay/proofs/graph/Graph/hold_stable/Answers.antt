@@ -1,0 +1,18 @@
+use Rattle.std.proofs.Common.{refl}
+use Rattle.kn_replay.proofs.Changed.{stable_stands}
+use Rattle.kn_replay.proofs.graph.Graph.hold_stable.Goals as goal
+
+pub invariant_of-self : goal.invariant_of-self
+invariant_of-self c =
+    let g = c.self.inside in
+    (stable_stands g.ground g.objects g.holders g.paused g.done g.entered.items _ c.self.invariant
+    c.args.thread c.args.h c.args.value c.set_stable.new.self c.set_stable.ensures (rw (← c.self.view_is) at c.requires)).together
+
+pub returns : goal.returns
+returns c =
+    let g = c.self.inside in
+    rw (← c.self.view_is) (record {
+      after = (stable_stands g.ground g.objects g.holders g.paused g.done g.entered.items _ c.self.invariant
+          c.args.thread c.args.h c.args.value c.set_stable.new.self c.set_stable.ensures (rw (← c.self.view_is) at c.requires)).after;
+      ground = refl;
+    })
