@@ -8,14 +8,14 @@ use Rattle.kn_io.specs.Told.{GivesAll, GivesSome, Appends, AppendsPrefix}
 use Rattle.kn_script.specs.declared.built.TheConstants.{TODAY}
 use Rattle.kn_script.specs.Scripts.{Scripted}
 use Rattle.kn_script.specs.Grammar.{IsText}
-use Rattle.kn_script.proofs.GrammarLemmas.{IsText-one, IsText-not_bad}
+use Rattle.kn_script.specs.Laws.{NoTextIsBad, TextsAreOfOneScript}
 use Rattle.kn_commands.specs.declared.status.Status.{Status}
 use Rattle.kn_commands.specs.declared.status.Status.TheVariants as ends
 use Rattle.kn_commands.specs.Kept.{RunRecord}
 use Rattle.kn_commands.specs.Runs.{IsRunOf, IsReported, AreComplete, IsSpent, schedule_of}
 use Rattle.kn_commands.specs.Ends.{Ran, RanWhole, IsRead, IsRefused, IsUnread, IsFinished, Refuses, IsScript, IsTraceEnd}
 
-module _ (old new : Devices) (status : Status) (cells : Option RunRecord)
+module _ (apart : NoTextIsBad TODAY) (one : TextsAreOfOneScript TODAY) (old new : Devices) (status : Status) (cells : Option RunRecord)
     (left : GivesSome old.left new.left) (source_count : NeverFalls old.source_faults new.source_faults)
     (sink_count : NeverFalls old.sink_faults new.sink_faults) where
   -- no script was read, or its run found no memory
@@ -49,7 +49,7 @@ module _ (old new : Devices) (status : Status) (cells : Option RunRecord)
     is_memory ends.ReadFault script bytes text told sound is = absurd (sound is)
     is_memory (ends.Script n why) script bytes text told sound is =
         let refused = subst (λ (x : Option (List ℕ)). IsRefused n why x new.left) told is.0 in
-        absurd (IsText-not_bad TODAY script bytes n why text refused.0)
+        absurd (apart script bytes n why text refused.0)
     is_memory ends.Memory script bytes text told sound is = refl
     is_memory ends.Ok script bytes text told sound is = absurd is
     is_memory ends.Usage script bytes text told sound is = absurd is
@@ -106,7 +106,7 @@ module _ (old new : Devices) (status : Status) (cells : Option RunRecord)
         subst (λ (x : List ℕ). IsText TODAY script x) gives.0 read.text
 
     told_script : (other : Scripted) (bytes : List ℕ) → IsText TODAY other bytes → old.left ≡ Some bytes → other ≡ script
-    told_script other bytes text told = IsText-one TODAY other script bytes text (told_text bytes told)
+    told_script other bytes text told = one other script bytes text (told_text bytes told)
 
     abbrev pub IsEnd : Status → Option (List ℕ) → Type 0
     IsEnd x text = IsFinished x text old.held new.held old.sink_faults new.sink_faults

@@ -16,7 +16,7 @@ use Rattle.kn_graph.specs.declared.calls.Call.{Call}
 use Rattle.kn_graph.specs.declared.entries.Entry.{Entry}
 use Rattle.kn_graph.specs.Ground.{IsGoodGround}
 use Rattle.kn_graph.specs.Logs.{log_of}
-use Rattle.kn_replay.specs.Replay.{graph_of}
+use Rattle.kn_objects.specs.Replay.{graph_of}
 use Rattle.kn_report.specs.Reports.{report_text}
 use Rattle.kn_schedule.specs.Schedules.{IsInFull, times, turns_of}
 use Rattle.kn_script.specs.Scripts.{Scripted, ground_of, counts_of}

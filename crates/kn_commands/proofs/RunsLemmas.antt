@@ -15,7 +15,7 @@ use Rattle.kn_base.specs.Functions.{Tells}
 use Rattle.kn_graph.specs.declared.calls.Call.{Call}
 use Rattle.kn_graph.specs.declared.entries.Entry.{Entry}
 use Rattle.kn_graph.specs.Logs.{log_of, calls_of, call_in}
-use Rattle.kn_replay.specs.Replay.{call_entry}
+use Rattle.kn_replay.specs.Seen.{call_entry}
 use Rattle.kn_graph.proofs.Splits.{log_of-append, calls_of-append}
 use Rattle.std.specs.List.{AllByRecursion}
 use Rattle.kn_schedule.specs.Schedules.{times}

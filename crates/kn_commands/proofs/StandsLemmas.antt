@@ -22,7 +22,8 @@ use Rattle.kn_graph.specs.Histories.{Follows}
 use Rattle.kn_graph.specs.Growth.{Succeeds}
 use Rattle.kn_graph.specs.Counts.{makes_object, is_ok}
 use Rattle.kn_graph.specs.Logs.{LogsFit, log_of}
-use Rattle.kn_replay.specs.Replay.{Replay, graph_of, is_full, IsSeen, IsAnswered, Answers, told_address, call_entry}
+use Rattle.kn_objects.specs.Replay.{Replay, graph_of}
+use Rattle.kn_replay.specs.Seen.{is_full, IsSeen, IsAnswered, Answers, told_address, call_entry}
 use Rattle.kn_graph.proofs.Splits.{appended, log_of-append}
 use Rattle.kn_graph.proofs.LegalGraphs.{legal_sound}
 use Rattle.kn_graph.proofs.Successors.{next_succeeds}

@@ -2,7 +2,7 @@
 use Rattle.std.specs.Prelude.{ℕ, List}
 use Rattle.kn_base.specs.declared.numbers.Span.{Span}
 use Rattle.kn_graph.specs.declared.entries.Entry.{Entry}
-use Rattle.kn_replay.specs.Replay.{Replay}
+use Rattle.kn_objects.specs.Replay.{Replay}
 
 -- the graph, the entries so far, the log of each caller, the cells born so far, and the address behind the cell born last
 pub record Kept : Type 0 where

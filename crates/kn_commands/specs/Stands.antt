@@ -12,7 +12,8 @@ use Rattle.kn_graph.specs.Ground.{Ground}
 use Rattle.kn_graph.specs.Graph.{empty_graph, shapes, words_of}
 use Rattle.kn_graph.specs.Histories.{Leads}
 use Rattle.kn_graph.specs.Logs.{LogsFit}
-use Rattle.kn_replay.specs.Replay.{graph_of, call_entry}
+use Rattle.kn_objects.specs.Replay.{graph_of}
+use Rattle.kn_replay.specs.Seen.{call_entry}
 use Rattle.kn_commands.specs.Births.{births_of}
 use Rattle.kn_commands.specs.Kept.{Kept}
 use Rattle.kn_commands.specs.Rooms.{ArePlaced, behind, free_after}

@@ -14,7 +14,7 @@ use crate::runs::{Made, run};
 use crate::status::Status;
 use kn_base::LONGEST_TEXT;
 use kn_io::{ReadEnd, Sink, Source, read_all, write_all};
-use kn_script::{Fault, Script, Why, parse};
+use kn_script::{Fault, Script, Why, parse, state_laws};
 use std::alloc::Global;
 
 /// How a trace ended, and the cells of its run. They are there exactly with `Ok`, `Spent` and
@@ -123,6 +123,7 @@ pub fn run_trace<S: Source, K: Sink>(alloc: Global, source: &mut S, sink: &mut K
     ensures flushed { result.status ≡ Status.Ok → K.is_flushed sink.new }
     ensures untouched { IsSilent result.status → sink.new ≡ sink.old }
 {
+    state_laws();
     let script = match read_script(alloc, source) {
         Ok(script) => script,
         Err(status) => return refuse(sink, status),

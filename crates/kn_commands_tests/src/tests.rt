@@ -138,14 +138,26 @@ fn scripts_are_refused(rt: HostRuntime) -> Result<(), Fail> {
     let table = [
         ("", "", "line 1 count\n"),
         ("", "heap 256 65536 0 32 0 2\n", "line 1 range\n"),
+        ("", "heap 0 32 0 32 0 2\n", "line 1 range\n"),
+        ("", "heap 200 32 57 32 0 2\n", "line 1 range\n"),
         ("", "names 0 0 0 0\n", "line 1 order\n"),
+        ("", "heap 1 64 0 64 0 2\nnames 0 0 0 65\n", "line 2 range\n"),
+        (head, "threads 17\n", "line 4 range\n"),
         (head, "threads 1\nthreads 1\n", "line 5 late\n"),
+        (head, "threads 1\nnew 0 0\n", "line 5 order\n"),
         (
             head,
             "threads 1\nturns 18446744073709551616\n",
             "line 5 number\n",
         ),
+        (head, "threads 1\nthread 0\nnew 0\n", "line 6 count\n"),
+        (head, "threads 1\nthread 0\nnew\t0 0\n", "line 6 word\n"),
+        (head, "threads 1\nthread 0\nnew 16 0\n", "line 6 range\n"),
+        (head, "threads 1\nthread 0\nnewx 0 0\n", "line 6 word\n"),
+        (head, "threads 1\nthread 0\nnew 0 1\n", "line 6 range\n"),
         (SCRIPT, "\0", "line 8 word\n"),
+        (SCRIPT, "order\n", "line 8 count\n"),
+        (SCRIPT, "thread 0\n", "line 8 late\n"),
         ("", longest.as_str(), "line 2 count\n"),
         ("", longer.as_str(), "line 1 long\n"),
     ];
@@ -195,7 +207,7 @@ fn faults_of_devices_are_answered(rt: HostRuntime) -> Result<(), Fail> {
 
 #[test]
 fn words_are_judged(rt: HostRuntime) -> Result<(), Fail> {
-    let forms: [(&[&str], u8); 9] = [
+    let forms: [(&[&str], u8); 10] = [
         (&["trace"], 0),
         (&["--", "trace"], 0),
         (&["trace", "--"], 0),
@@ -204,6 +216,7 @@ fn words_are_judged(rt: HostRuntime) -> Result<(), Fail> {
         (&["trace", "x"], 1),
         (&["--help"], 1),
         (&["gen", "0"], 1),
+        (&["gen", "201"], 1),
         (&["--", "--", "trace"], 1),
     ];
     for (words, number) in forms {

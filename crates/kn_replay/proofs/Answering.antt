@@ -9,7 +9,7 @@ use Rattle.kn_graph.specs.Ground.{Ground}
 use Rattle.kn_graph.specs.Graph.{Graph, IsLegalBirth, cell_at, length_for, newborn, with_birth, with_entered}
 use Rattle.kn_graph.specs.Arguments.{IsInRange}
 use Rattle.kn_graph.specs.Answers.{Answer, AnswersCollect, AnswersNew, AnswersTie, MayAnswer, answers, needs, tied}
-use Rattle.kn_replay.specs.Replay.{Answers, IsSeen, is_full, told_address}
+use Rattle.kn_replay.specs.Seen.{Answers, IsSeen, is_full, told_address}
 use Rattle.kn_replay.specs.Plans.{answer_as}
 use Rattle.kn_replay.specs.Applying.{IsAwaitedReply, MayBeSeen}
 

@@ -11,11 +11,12 @@ use Rattle.kn_replay.specs.declared.changes.Change.TheVariants.{Local, Global, S
 use Rattle.kn_replay.specs.declared.changes.Newborn.{Newborn}
 use Rattle.kn_graph.specs.Ground.{Ground}
 use Rattle.kn_graph.specs.Graph.{Object, empty_graph, newborn, with_object}
-use Rattle.kn_replay.specs.Replay.{graph_of}
-use Rattle.kn_replay.specs.Kept.{KeptObjects, nth_object}
+use Rattle.kn_objects.specs.Replay.{graph_of}
+use Rattle.kn_objects.specs.Kept.{KeptObjects, nth_object}
 use Rattle.kn_replay.specs.ChangesMade.{IsFit, Stands, changed}
-use Rattle.kn_replay.specs.Held.{AreSized, FitTogether, IsHeld, KeptHolders, no_holders, replay_of}
-use Rattle.kn_replay.proofs.Fields.{set_or}
+use Rattle.kn_objects.specs.Holders.{AreSized, KeptHolders, no_holders}
+use Rattle.kn_replay.specs.Held.{FitTogether, IsHeld, replay_of}
+use Rattle.kn_objects.proofs.Fields.{set_or}
 use Rattle.kn_replay.proofs.Held.{held_changed}
 
 -- nothing is at any place of a list of nulls

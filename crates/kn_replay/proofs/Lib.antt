@@ -1,9 +1,3 @@
-pub mod Adding
-pub mod Behind
-pub mod Fields
-pub mod Owners
-pub mod Kept
-pub mod Frames
 pub mod Held
 pub mod Changed
 pub mod Answering

@@ -7,9 +7,11 @@ use Rattle.kn_graph.specs.Ground.{Ground}
 use Rattle.kn_graph.specs.Graph.{Graph, Object, with_entered}
 use Rattle.kn_graph.specs.Reachable.{IsReachable}
 use Rattle.kn_graph.specs.Collections.{Condemns, with_condemned}
-use Rattle.kn_replay.specs.Replay.{condemned_by, graph_of}
-use Rattle.kn_replay.specs.Kept.{KeptObjects, nth_object}
-use Rattle.kn_replay.specs.Held.{FitTogether, IsHeld, KeptHolders, replay_of}
+use Rattle.kn_objects.specs.Replay.{graph_of}
+use Rattle.kn_replay.specs.Seen.{condemned_by}
+use Rattle.kn_objects.specs.Kept.{KeptObjects, nth_object}
+use Rattle.kn_objects.specs.Holders.{KeptHolders}
+use Rattle.kn_replay.specs.Held.{FitTogether, IsHeld, replay_of}
 
 -- a flag changes nothing that is held
 held_condemned : (g : Graph) (flag : ℕ → Bool) → IsHeld g → IsHeld (with_condemned g flag)

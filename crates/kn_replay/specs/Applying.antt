@@ -10,7 +10,8 @@ use Rattle.kn_graph.specs.Ground.{Ground}
 use Rattle.kn_graph.specs.Graph.{Graph}
 use Rattle.kn_graph.specs.Answers.{IsAwaited}
 use Rattle.kn_graph.specs.Histories.{Follows}
-use Rattle.kn_replay.specs.Replay.{MayBeBorn, Replay, graph_of}
+use Rattle.kn_objects.specs.Replay.{Replay, graph_of}
+use Rattle.kn_replay.specs.Seen.{MayBeBorn}
 use Rattle.kn_replay.specs.ChangesMade.{IsFit, changed}
 
 -- true where the entry is legal next, and then the graph after is one that it leads to; false where it is not, and then

@@ -9,9 +9,10 @@ use Rattle.kn_graph.specs.Graph.{Graph, Lives, shapes, newborn, cell_at, with_lo
 use Rattle.kn_graph.specs.Graph.{with_points, with_number, with_tie, with_birth, with_object, IsLegalBirth}
 use Rattle.kn_graph.specs.Answers.{Answer, answers, greatest_count}
 use Rattle.kn_graph.specs.Sound.{WasBorn}
-use Rattle.kn_replay.specs.Replay.{Replay, graph_of}
-use Rattle.kn_replay.specs.Kept.{KeptObjects}
-use Rattle.kn_replay.specs.Held.{FitTogether, KeptHolders, replay_of}
+use Rattle.kn_objects.specs.Replay.{Replay, graph_of}
+use Rattle.kn_objects.specs.Kept.{KeptObjects}
+use Rattle.kn_objects.specs.Holders.{KeptHolders}
+use Rattle.kn_replay.specs.Held.{FitTogether, replay_of}
 
 -- the graph after a change that a thread makes
 abbrev pub changed : ℕ → Change → Graph → Graph

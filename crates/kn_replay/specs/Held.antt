@@ -1,43 +1,13 @@
--- What locals, globals and names hold, and what holds of a graph that is kept, between any two steps.
-use Rattle.std.specs.Prelude.{◌≡◌, ℕ, ◌+◌, ◌<◌, ◌≤◌, Option, None, List, length, replicate, slice_index_or, []}
-use Rattle.kn_base.specs.declared.heap.Sizes.{Sizes}
+-- What holds of a graph that is kept, between any two steps.
+use Rattle.std.specs.Prelude.{◌≡◌, ℕ, ◌+◌, ◌≤◌, List, length}
 use Rattle.kn_base.specs.Sizes.{word_count}
 use Rattle.kn_graph.specs.Ground.{Ground}
 use Rattle.kn_graph.specs.Graph.{Graph, pointers}
 use Rattle.kn_graph.specs.Answers.{greatest_count}
 use Rattle.kn_graph.specs.Sound.{WasBorn}
-use Rattle.kn_replay.specs.Replay.{Replay}
-use Rattle.kn_replay.specs.Kept.{KeptObjects}
-
--- the locals of each thread, the globals, and the names, by object number, and the counts of back names
-pub record KeptHolders : Type 0 where
-  pub locals : List (List (Option ℕ))
-  pub globals : List (Option ℕ)
-  pub stable : List (Option ℕ)
-  pub weak : List (Option ℕ)
-  pub back : List (Option ℕ)
-  pub counts : List ℕ
-
--- as many as the sizes say, and none holds anything
-abbrev pub no_holders : Sizes → KeptHolders
-no_holders z = record {
-  locals = replicate z.threads (replicate 16 None);
-  globals = replicate z.globals None;
-  stable = replicate z.stable None;
-  weak = replicate z.weak None;
-  back = replicate z.back None;
-  counts = replicate z.back 0;
-}
-
--- there are as many of each as the sizes say, and sixteen locals for each thread
-pub record AreSized (z : Sizes) (h : KeptHolders) : Type 0 where
-  pub threads : length h.locals ≡ z.threads
-  pub locals : (thread : ℕ) → thread < z.threads → length (slice_index_or h.locals thread []) ≡ 16
-  pub globals : length h.globals ≡ z.globals
-  pub stable : length h.stable ≡ z.stable
-  pub weak : length h.weak ≡ z.weak
-  pub back : length h.back ≡ z.back
-  pub counts : length h.counts ≡ z.back
+use Rattle.kn_objects.specs.Replay.{Replay}
+use Rattle.kn_objects.specs.Kept.{KeptObjects}
+use Rattle.kn_objects.specs.Holders.{KeptHolders, AreSized}
 
 -- each object that a local, a global, a name or a field holds was born, and no count is above the greatest one
 pub record IsHeld (g : Graph) : Type 0 where

@@ -1,7 +1,5 @@
-pub mod Replay
-pub mod Kept
+pub mod Seen
 pub mod Held
 pub mod ChangesMade
 pub mod Plans
 pub mod Applying
-pub mod Marking

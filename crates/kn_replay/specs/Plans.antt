@@ -9,7 +9,8 @@ use Rattle.kn_replay.specs.declared.changes.Plan.{Plan}
 use Rattle.kn_graph.specs.Ground.{Ground}
 use Rattle.kn_graph.specs.Graph.{Graph, newborn, length_for, with_birth}
 use Rattle.kn_graph.specs.Answers.{Answer, answer, answers, needs, tied}
-use Rattle.kn_replay.specs.Replay.{Replay, graph_of, is_full}
+use Rattle.kn_objects.specs.Replay.{Replay, graph_of}
+use Rattle.kn_replay.specs.Seen.{is_full}
 use Rattle.kn_replay.specs.ChangesMade.{IsFit, planned}
 
 -- the answer to a birth that was seen to be `full`, or to take place at this address

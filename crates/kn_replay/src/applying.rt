@@ -8,16 +8,17 @@ ghost use Rattle.kn_graph.specs.Graph.{IsLegalBirth, Names, cell_at};
 ghost use Rattle.kn_graph.specs.Arguments.{IsInRange};
 ghost use Rattle.kn_graph.specs.Collections.{Condemns, DoneFollows, FinalizeFollows, IsSettled, QueueFollows, ReleaseFollows, with_condemned};
 ghost use Rattle.kn_graph.specs.Histories.{CallFollows, EventFollows, IsByCollector, IsByFinalizer, IsBySweeper};
-ghost use Rattle.kn_replay.specs.Replay.{MayBeBorn, condemned_by, graph_of, object_of, told_address};
+ghost use Rattle.kn_objects.specs.Replay.{graph_of, object_of};
+ghost use Rattle.kn_replay.specs.Seen.{MayBeBorn, condemned_by, told_address};
 ghost use Rattle.kn_graph.specs.Counts.{is_pause};
 ghost use Rattle.kn_replay.specs.Applying.{IsApplied, IsAwaitedReply, IsDecided, MayBeSeen};
 
 use crate::changes::Change;
 use crate::graph::Graph;
-use crate::objects::KeptObject;
 use crate::plans::is_full;
 use kn_graph::{Call, Entry, Event, Reply};
 use kn_layout::cell_size;
+use kn_objects::KeptObject;
 use std::alloc::{AllocError, Global};
 
 impl Graph {

@@ -3,7 +3,7 @@
 
 ghost use Rattle.std.specs.Prelude.{◌≡◌, ◌+◌, ◌^◌, ◌<◌, MatchResult, vec_len, vec_capacity, false};
 ghost use Rattle.kn_graph.specs.Graph.{with_entered};
-ghost use Rattle.kn_replay.specs.Replay.{graph_of};
+ghost use Rattle.kn_objects.specs.Replay.{graph_of};
 ghost use Rattle.kn_replay.specs.ChangesMade.{IsChanged, IsFit, is_birth};
 
 use crate::graph::Graph;

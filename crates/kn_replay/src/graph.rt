@@ -6,13 +6,10 @@ ghost use Rattle.std.specs.Prelude.{◌≡◌, ℕ, ◌+◌, ◌-◌, ◌^◌, �
 ghost use Rattle.std.specs.Prelude.{slice_index_or};
 
 use crate::changes::Newborn;
-use crate::ground::Ground;
-use crate::holders::Holders;
-use crate::marking::mark_held;
-use crate::objects::{KeptObject, Objects};
 use kn_base::{Caller, Sizes};
 use kn_graph::{Call, Reply};
 use kn_layout::{FieldKind, Layout};
+use kn_objects::{Ground, Holders, KeptObject, Objects, mark_held};
 use std::alloc::{AllocError, Global};
 use std::marker::Model;
 
@@ -33,7 +30,7 @@ pub struct Graph {
 
 impl Model for Graph {
     ghost use Rattle.std.specs.Prelude.{length};
-    ghost use Rattle.kn_replay.specs.Replay.{Replay, graph_of};
+    ghost use Rattle.kn_objects.specs.Replay.{Replay, graph_of};
     ghost use Rattle.kn_replay.specs.Held.{FitTogether, replay_of};
 
     ghost Value = { Replay };
@@ -50,7 +47,8 @@ ghost use Rattle.kn_graph.specs.Sound.{WasBorn};
 ghost use Rattle.kn_graph.specs.Arguments.{IsInRange};
 ghost use Rattle.kn_graph.specs.Reachable.{IsReachable};
 ghost use Rattle.kn_graph.specs.Collections.{with_condemned};
-ghost use Rattle.kn_replay.specs.Replay.{Answers, IsSeen, condemned_by, graph_of};
+ghost use Rattle.kn_objects.specs.Replay.{graph_of};
+ghost use Rattle.kn_replay.specs.Seen.{Answers, IsSeen, condemned_by};
 
 impl Graph {
     /// The empty graph over a heap of these sizes and layouts. An error is want of memory.

@@ -3,16 +3,12 @@
 //!
 //! A `Graph` owns its lists and nothing but its own calls changes them. Between any two calls its
 //! parts fit together (`FitTogether` in `specs/Held.antt`), and it stands for one graph of the
-//! model (`graph_of` in `specs/Replay.antt`).
+//! model (`graph_of` in `specs/Replay.antt` of `kn_objects`).
 #![tactic(auto)]
 
 mod applying;
 mod changes;
 mod graph;
-mod ground;
-mod holders;
-mod marking;
-mod objects;
 mod plans;
 
 pub use graph::Graph;

@@ -5,7 +5,8 @@ ghost use Rattle.std.specs.Prelude.{◌≡◌, ◌<◌, ◌≤◌, false};
 ghost use Rattle.kn_graph.specs.Graph.{length_for};
 ghost use Rattle.kn_graph.specs.Answers.{ref_or_null};
 ghost use Rattle.kn_graph.specs.Arguments.{IsInRange};
-ghost use Rattle.kn_replay.specs.Replay.{IsSeen, MayBeBorn, graph_of, is_full};
+ghost use Rattle.kn_objects.specs.Replay.{graph_of};
+ghost use Rattle.kn_replay.specs.Seen.{IsSeen, MayBeBorn, is_full};
 ghost use Rattle.kn_replay.specs.Plans.{IsPlan, IsPlanOf, answer_new};
 
 use crate::changes::{Change, Plan};

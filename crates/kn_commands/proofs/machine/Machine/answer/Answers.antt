@@ -2,7 +2,7 @@ use Rattle.std.proofs.Common.{◌≡◌, ◌∙◌, refl, sym, ap, subst, List, 
 use Rattle.std.proofs.lemmas.Result.{on_ok_weaker}
 use Rattle.kn_graph.specs.declared.entries.Entry.{Entry}
 use Rattle.kn_graph.specs.Ground.{Ground}
-use Rattle.kn_replay.specs.Replay.{call_entry}
+use Rattle.kn_replay.specs.Seen.{call_entry}
 use Rattle.kn_commands.specs.Kept.{Kept}
 use Rattle.kn_commands.specs.Rooms.{room_of}
 use Rattle.kn_commands.specs.Stands.{StandsFor, with_entry}

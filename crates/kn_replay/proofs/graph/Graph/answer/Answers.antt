@@ -1,6 +1,6 @@
 use Rattle.std.proofs.Common.{◌≡◌, ap, ◌∙◌}
 use Rattle.kn_graph.specs.Graph.{Graph, with_entered}
-use Rattle.kn_replay.specs.Replay.{Replay, graph_of}
+use Rattle.kn_objects.specs.Replay.{Replay, graph_of}
 use Rattle.kn_replay.specs.ChangesMade.{changed}
 use Rattle.kn_replay.proofs.Answering.{answered_as}
 use Rattle.kn_replay.proofs.graph.Graph.answer.Goals as goal

@@ -2,7 +2,7 @@ use Rattle.std.proofs.Common.{◌≡◌, sym, ap, ◌∙◌, subst}
 use Rattle.std.proofs.lemmas.Bool.{true≢false}
 use Rattle.kn_graph.specs.Answers.{Answer, MayAnswer}
 use Rattle.kn_graph.specs.Arguments.{IsInRange}
-use Rattle.kn_replay.specs.Replay.{Replay, graph_of}
+use Rattle.kn_objects.specs.Replay.{Replay, graph_of}
 use Rattle.kn_replay.specs.Plans.{answer_as}
 use Rattle.kn_replay.proofs.Answering.{may_complete, may_sound}
 use Rattle.kn_replay.proofs.graph.Graph.answered.Goals as goal

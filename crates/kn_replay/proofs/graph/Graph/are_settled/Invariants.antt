@@ -1,6 +1,6 @@
 use Rattle.std.proofs.Common.{ℕ, ◌<◌}
 use Rattle.kn_graph.specs.Collections.{IsSettled}
-use Rattle.kn_replay.specs.Replay.{graph_of}
+use Rattle.kn_objects.specs.Replay.{graph_of}
 use Rattle.kn_replay.proofs.graph.Graph.are_settled.Given as goal
 
 abbrev pub invariant-loop-n : goal.invariant-loop-n

@@ -1,5 +1,5 @@
 use Rattle.std.proofs.Common.{◌≡◌, ◌+◌, length, refl, arith}
-use Rattle.kn_replay.proofs.Frames.{frame_within}
+use Rattle.kn_objects.proofs.Frames.{frame_within}
 use Rattle.kn_replay.proofs.Changed.{birth_stands}
 use Rattle.kn_replay.proofs.graph.Graph.bear.Goals as goal
 

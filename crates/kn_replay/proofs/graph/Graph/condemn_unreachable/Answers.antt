@@ -1,4 +1,4 @@
-use Rattle.kn_replay.specs.Replay.{graph_of}
+use Rattle.kn_objects.specs.Replay.{graph_of}
 use Rattle.kn_replay.proofs.Pausing.{condemns_unmarked}
 use Rattle.kn_replay.proofs.graph.Graph.condemn_unreachable.Goals as goal
 

@@ -1,5 +1,5 @@
 use Rattle.std.proofs.Common.{arith}
-use Rattle.kn_replay.proofs.Frames.{frame_within}
+use Rattle.kn_objects.proofs.Frames.{frame_within}
 use Rattle.kn_replay.proofs.graph.Graph.is_legal_birth.Goals as goal
 
 pub is_free-requires-clause-within : goal.is_free-requires-clause-within

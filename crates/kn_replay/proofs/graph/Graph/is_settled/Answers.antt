@@ -1,7 +1,7 @@
 use Rattle.std.proofs.Common.{◌↔◌, IsTrue, Option, subst}
-use Rattle.kn_replay.specs.declared.objects.KeptObject.{KeptObject}
+use Rattle.kn_objects.specs.declared.objects.KeptObject.{KeptObject}
 use Rattle.kn_graph.specs.Collections.{IsSettled}
-use Rattle.kn_replay.specs.Replay.{object_of}
+use Rattle.kn_objects.specs.Replay.{object_of}
 use Rattle.kn_replay.proofs.graph.Graph.is_settled.Goals as goal
 
 pub returns-in-Some : goal.returns-in-Some

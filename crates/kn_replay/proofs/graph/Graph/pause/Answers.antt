@@ -1,7 +1,8 @@
 use Rattle.std.proofs.Common.{◌≡◌, ℕ, Bool, refl, ◌∙◌}
 use Rattle.kn_graph.specs.Graph.{Graph}
 use Rattle.kn_graph.specs.Collections.{with_condemned}
-use Rattle.kn_replay.specs.Replay.{condemned_by, graph_of}
+use Rattle.kn_objects.specs.Replay.{graph_of}
+use Rattle.kn_replay.specs.Seen.{condemned_by}
 use Rattle.kn_replay.proofs.Pausing.{entered_known}
 use Rattle.kn_replay.proofs.graph.Graph.pause.Goals as goal
 

@@ -1,7 +1,7 @@
 use Rattle.std.proofs.Common.{length, refl, ap}
 use Rattle.kn_base.specs.Functions.{upd}
 use Rattle.kn_replay.specs.declared.changes.Change.TheVariants.{Number}
-use Rattle.kn_replay.specs.Kept.{nth_object}
+use Rattle.kn_objects.specs.Kept.{nth_object}
 use Rattle.kn_replay.proofs.Changed.{object_stands}
 use Rattle.kn_replay.proofs.graph.Graph.set_number.Goals as goal
 

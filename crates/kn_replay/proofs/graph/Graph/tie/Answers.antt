@@ -1,6 +1,6 @@
 use Rattle.std.proofs.Common.{Some, refl}
 use Rattle.kn_replay.specs.declared.changes.Change.TheVariants.{Tie}
-use Rattle.kn_replay.specs.Kept.{nth_object}
+use Rattle.kn_objects.specs.Kept.{nth_object}
 use Rattle.kn_replay.proofs.Changed.{object_stands}
 use Rattle.kn_replay.proofs.graph.Graph.tie.Goals as goal
 

@@ -1,6 +1,0 @@
-use Rattle.std.proofs.Common.{take}
-use Rattle.kn_replay.specs.Marking.{Adds, IsCounted}
-use Rattle.kn_replay.proofs.marking.mark_counted.Given as goal
-
-abbrev pub invariant-loop-b : goal.invariant-loop-b
-invariant-loop-b l = Adds (IsCounted (take l.b l.back) l.counts) l.initial.marks l.initial.work l.initial.height l.marks l.work l.height

@@ -1,0 +1,6 @@
+pub mod Start
+pub mod Searched
+pub mod Indexes
+pub mod Decodings
+pub mod FrameSpans
+pub mod Rows

@@ -1,0 +1,89 @@
+-- The clauses of the rule on where callers stand, what they polled, and what they may own.
+use Rattle.std.specs.Prelude.{◌≡◌, ℕ, ◌+◌, ◌<◌, ◌≤◌, ◌⊎◌, true, Bool, List, Option, Some, None, slice_get}
+use Rattle.std.specs.List.{AllByRecursion}
+use Rattle.kn_base.specs.declared.kinds.Code.{Code}
+use Rattle.kn_base.specs.declared.kinds.Code.TheVariants as codes
+use Rattle.kn_base.specs.declared.phase_word.PhaseWord.{PhaseWord}
+use Rattle.kn_graph.specs.declared.entries.Entry.{Entry}
+use Rattle.kn_graph.specs.Ground.{Ground}
+use Rattle.kn_rule.specs.declared.positions.Position.{Position}
+use Rattle.kn_rule.specs.declared.positions.Position.TheVariants.{Out, Between, Calling, Writing, Dropping, Adding, Waiting, Leaving, Ended}
+use Rattle.kn_rule.specs.Decoding.{phase_of}
+use Rattle.kn_rule.specs.Views.{Open}
+use Rattle.kn_rule.specs.Steps.{callers}
+
+-- in, from the entering load to the leaving one
+abbrev pub IsIn : Position → Type 0
+IsIn Between = Unit {0}
+IsIn (Calling call) = Unit {0}
+IsIn (Writing r w n) = Unit {0}
+IsIn (Dropping x) = Unit {0}
+IsIn (Adding n) = Unit {0}
+IsIn Waiting = Unit {0}
+IsIn _ = ⊥
+
+-- in, and not waiting for an epoch
+abbrev pub IsBusy : Position → Type 0
+IsBusy Waiting = ⊥
+IsBusy at = IsIn at
+
+abbrev pub IsInOrLeaving : Position → Type 0
+IsInOrLeaving Leaving = Unit {0}
+IsInOrLeaving at = IsIn at
+
+-- out, or ended
+abbrev pub IsResting : Position → Type 0
+IsResting Out = Unit {0}
+IsResting Ended = Unit {0}
+IsResting _ = ⊥
+
+-- the state word of a position: 0 out, 2 ended, and else 1
+abbrev pub state_number : Position → ℕ
+state_number Out = 0
+state_number Ended = 2
+state_number _ = 1
+
+-- the state word of a mutator, and of the collector, is that of its position; the collector and the finalizer are never in
+pub record Stated (z : Ground) (word : ℕ → ℕ) (position : ℕ → Position) : Type 0 where
+  pub each : (c : ℕ) → c ≤ z.sizes.threads → word c ≡ state_number (position c)
+  pub resting : (c : ℕ) → z.sizes.threads ≤ c → c < callers z.sizes → IsResting (position c)
+
+-- a mutator that the collector's view has as seen ended has ended; where the collector has ended, all have
+pub record AtEnd (z : Ground) (position : ℕ → Position) (ended : ℕ → List Bool) : Type 0 where
+  pub seen : (i : ℕ) → i < z.sizes.threads → slice_get (ended z.sizes.threads) i ≡ Some true → position i ≡ Ended
+  pub all : position z.sizes.threads ≡ Ended → (i : ℕ) → i < z.sizes.threads → position i ≡ Ended
+
+abbrev IsAt : PhaseWord → ℕ → Code → Type 0
+IsAt now e code = (now.epoch ≡ e) × (now.code ≡ code)
+
+abbrev IsSinceAt : ℕ → Code → PhaseWord → Type 0
+IsSinceAt e codes.Idle now = IsAt now e codes.Idle ⊎ IsAt now (e + 1) codes.StopA
+IsSinceAt e codes.Weak now = IsAt now e codes.Weak ⊎ IsAt now e codes.StopB
+IsSinceAt e codes.Sweep now = IsAt now e codes.Sweep ⊎ IsAt now e codes.Idle ⊎ IsAt now (e + 1) codes.StopA
+IsSinceAt e _ now = ⊥
+
+-- a phase that was polled is a run phase, and the phase now is that one still, or the stop behind it; behind Sweep comes Idle,
+-- and then the stop
+abbrev pub IsSince : PhaseWord → PhaseWord → Type 0
+IsSince polled now = IsSinceAt polled.epoch polled.code now
+
+-- a target is at least 1, at most one above the last pause, at most the epoch wanted, and above each epoch in the log
+abbrev pub IsTarget : ℕ → ℕ → Option ℕ → List Entry → Type 0
+IsTarget paused want None log = Unit {0}
+IsTarget paused want (Some n) log = (1 ≤ n) × (n ≤ paused + 1) × (n ≤ want) × AllByRecursion (λ entry. entry.epoch < n) log
+
+-- a mutator that is in polled a run phase, since which the phase went on by a stop at most; one that is in has a target only
+-- where it waits; and targets are within their limits
+pub record Polled (z : Ground) (paused phase want : ℕ) (position : ℕ → Position) (polled : ℕ → ℕ) (target : ℕ → Option ℕ)
+    (log : ℕ → List Entry) : Type 0 where
+  pub since : (c : ℕ) → c < z.sizes.threads → IsIn (position c) → IsSince (phase_of (polled c)) (phase_of phase)
+  pub untargeted : (c : ℕ) → c < z.sizes.threads → IsBusy (position c) → target c ≡ None
+  pub targets : (c : ℕ) → c < z.sizes.threads → IsTarget paused want (target c) (log c)
+
+abbrev pub MayOwn : Ground → ℕ → (ℕ → Position) → ℕ → Type 0
+MayOwn z phase position c =
+    ((c < z.sizes.threads) × IsInOrLeaving (position c)) ⊎ ((c ≡ z.sizes.threads) × ((phase_of phase).code ≡ codes.Sweep))
+
+-- an owned frame belongs to a mutator that is in or leaving, or to the collector in Sweep
+pub record Owners (z : Ground) (phase : ℕ) (position : ℕ → Position) (own : ℕ → ℕ → Option Open) : Type 0 where
+  pub each : (c p : ℕ) (o : Open) → c < callers z.sizes → own c p ≡ Some o → MayOwn z phase position c

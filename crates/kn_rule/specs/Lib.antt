@@ -1,0 +1,17 @@
+pub mod Decoding
+pub mod FrameSpans
+pub mod Phases
+pub mod Places
+pub mod Views
+pub mod Requests
+pub mod Searches
+pub mod Steps
+pub mod Outcomes
+pub mod Allowed
+pub mod Moves
+pub mod HistoryClauses
+pub mod ObjectClauses
+pub mod CallerClauses
+pub mod FrameClauses
+pub mod Rule
+pub mod Laws
