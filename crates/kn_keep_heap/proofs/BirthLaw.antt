@@ -1,5 +1,6 @@
 -- The law of a birth.
-use Rattle.std.proofs.Common.{◌≡◌, ◌≢◌, ℕ, suc, ◌+◌, ◌*◌, ◌^◌, ◌<◌, ◌≤◌, inl, inr, Bool, cond, leb, [], ◌∷◌, ◌++◌, length, Option, Some, None}
+use Rattle.std.proofs.Common.{◌≡◌, ◌≢◌, ℕ, suc, ◌+◌, ◌*◌, ◌^◌, ◌<◌, ◌≤◌, inl, inr, Bool, cond, leb, [], ◌∷◌}
+use Rattle.std.proofs.Common.{◌++◌, length, Option, Some, None}
 use Rattle.std.proofs.Common.{slice_set}
 use Rattle.std.proofs.Common.{refl, sym, subst, ap, ◌∙◌, arith, length-set, ne_eqb}
 use Rattle.std.proofs.lemmas.Bool.{cases_lt}

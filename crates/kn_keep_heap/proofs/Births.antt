@@ -1,5 +1,6 @@
 -- A birth: what the clauses say of the graph with one object more, which has the words of a cell that was taken.
-use Rattle.std.proofs.Common.{◌≡◌, ◌≢◌, ℕ, ◌+◌, ◌<◌, ◌⊎◌, inl, inr, false, List, Option, Some, None, refl, sym, subst, ap, ◌∙◌, arith}
+use Rattle.std.proofs.Common.{◌≡◌, ◌≢◌, ℕ, ◌+◌, ◌<◌, ◌⊎◌, inl, inr, false, List, Option, Some, None, refl, sym, subst, ap}
+use Rattle.std.proofs.Common.{◌∙◌, arith}
 use Rattle.kn_base.specs.declared.numbers.Span.{Span}
 use Rattle.kn_base.specs.declared.kinds.FrameKind.TheVariants as frames
 use Rattle.kn_base.specs.declared.kinds.NodeKind.{NodeKind}
@@ -123,7 +124,8 @@ module _ (z : Ground) (g : Graph) (s : IsSound z g) (new : Shape) (kept : new.re
     pub fielded_born : Fielded z (g.born + 1) more null_points zero_numbers body
     fielded_born = record { refs = refs_at; ints = ints_at }
 
-  pub localed_born : (word : ℕ → ℕ → ℕ) (position : ℕ → Position) (view : ℕ → ℕ → ℕ) → Localed z (shapes g) g.local word position view →
+  pub localed_born : (word : ℕ → ℕ → ℕ) (position : ℕ → Position) (view : ℕ → ℕ → ℕ) →
+      Localed z (shapes g) g.local word position view →
       Localed z more g.local word position view
   localed_born word position view r = record {
     words = λ c i l m q. r.words c i l m q ∙ sym (address_kept (g.local c i) (born_of (g.local c i) (s.roots.locals c i)));
@@ -223,7 +225,8 @@ module _ (z : Ground) (g : Graph) (s : IsSound z g) (new : Shape) (kept : new.re
             (λ _. none_cleared body (local by) (position by)) c (λ _ l. r.each c l) l;
       }
 
-      pub taken_in_born : (position : ℕ → Position) (own : ℕ → ℕ → Option Open) (sweep : ℕ → Option Sweep) → TakenIn z position own taken sweep →
+      pub taken_in_born : (position : ℕ → Position) (own : ℕ → ℕ → Option Open) (sweep : ℕ → Option Sweep) →
+          TakenIn z position own taken sweep →
           TakenIn z position own (upd taken by None) sweep
       taken_in_born position own sweep r = record {
         owned = λ c u l e. r.owned c u l (other_cell c u e).1;
@@ -282,7 +285,8 @@ module _ (z : Ground) (g : Graph) (s : IsSound z g) (new : Shape) (kept : new.re
         was a (inl x) = inl (fills a (inl x))
         was a (inr x) = inl (fills a (inr (subst (λ (y : Span). HasWord y a) cell (subst (λ y. IsTakenWord y a) has x))))
 
-        theirs : (a : ℕ) (x : Option Taken) → ¬ (filled a ⊎ IsTakenWord x a) → ¬ HasWord (words_of new) a → filled_more a ⊎ IsTakenWord x a → ⊥
+        theirs : (a : ℕ) (x : Option Taken) → ¬ (filled a ⊎ IsTakenWord x a) → ¬ HasWord (words_of new) a →
+            filled_more a ⊎ IsTakenWord x a → ⊥
         theirs a x f out (inr y) = f (inr y)
         theirs a x f out (inl y) = at (filled_from a y)
           where

@@ -1,5 +1,6 @@
 -- A store into a field: what the clauses on the words of objects and cells say after it.
-use Rattle.std.proofs.Common.{◌≡◌, ◌≢◌, ℕ, suc, ◌+◌, ◌<◌, ◌≤◌, ◌⊎◌, inl, inr, true, false, cond, ltb, Option, Some, None, slice_get, refl, sym}
+use Rattle.std.proofs.Common.{◌≡◌, ◌≢◌, ℕ, suc, ◌+◌, ◌<◌, ◌≤◌, ◌⊎◌, inl, inr, true, false, cond, ltb, Option, Some, None}
+use Rattle.std.proofs.Common.{slice_get, refl, sym}
 use Rattle.std.proofs.Common.{subst, ap, ◌∙◌, arith}
 use Rattle.std.proofs.lemmas.Bool.Decides.{leb_tells}
 use Rattle.kn_base.specs.declared.numbers.Span.{Span}
@@ -64,7 +65,8 @@ module _ (z : Ground) (g : Graph) (s : IsSound z g)
           (sym (upd_else body ((shapes g n).address + 1 + i) w (shapes g m).address (headed_other m l))) (r.headers m l);
     }
 
-    pub cleared_kept : (local : ℕ → ℕ → ℕ) (position : ℕ → Position) (taken : ℕ → Option Taken) → Apart z g.born (shapes g) position taken →
+    pub cleared_kept : (local : ℕ → ℕ → ℕ) (position : ℕ → Position) (taken : ℕ → Option Taken) →
+        Apart z g.born (shapes g) position taken →
         Cleared z body local position taken → Cleared z (upd body ((shapes g n).address + 1 + i) w) local position taken
     cleared_kept local position taken a r = record { each = λ c l. at c l (position c) (taken c) refl (r.each c l) }
       where

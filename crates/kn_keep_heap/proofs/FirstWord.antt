@@ -1,5 +1,6 @@
 -- The law of a step that clears the first word of a cell.
-use Rattle.std.proofs.Common.{◌≡◌, ◌≢◌, ℕ, ◌+◌, ◌<◌, ◌≤◌, ◌⊎◌, ◌↔◌, inl, inr, cond, eqb, Bool, [], length, Option, Some, None, slice_set, refl, sym}
+use Rattle.std.proofs.Common.{◌≡◌, ◌≢◌, ℕ, ◌+◌, ◌<◌, ◌≤◌, ◌⊎◌, ◌↔◌, inl, inr, cond, eqb, Bool, [], length, Option}
+use Rattle.std.proofs.Common.{Some, None, slice_set, refl, sym}
 use Rattle.std.proofs.Common.{subst, ap}
 use Rattle.std.proofs.Common.{◌∙◌, arith, length-set}
 use Rattle.kn_base.specs.declared.numbers.Span.{Span}

@@ -1,5 +1,6 @@
 -- The clauses on frames, where a frame is claimed, and where it is given back.
-use Rattle.std.proofs.Common.{◌≡◌, ◌≢◌, ℕ, ◌<◌, ◌⊎◌, inl, inr, Bool, true, false, eqb, ◌&&◌, List, [], ◌∷◌, Option, Some, None, refl, sym, subst}
+use Rattle.std.proofs.Common.{◌≡◌, ◌≢◌, ℕ, ◌<◌, ◌⊎◌, inl, inr, Bool, true, false, eqb, ◌&&◌, List, [], ◌∷◌, Option, Some}
+use Rattle.std.proofs.Common.{None, refl, sym, subst}
 use Rattle.std.proofs.Common.{ap, ◌∙◌, arith, eqb-true}
 use Rattle.kn_base.specs.declared.numbers.Span.{Span}
 use Rattle.kn_base.specs.declared.heap.Sizes.{Sizes}
@@ -26,7 +27,8 @@ use Rattle.kn_keep_heap.proofs.Positions.{not_without}
 use Rattle.kn_keep_heap.proofs.Owns.{gets_case, gets_hit, gets_else, gets_other}
 use Rattle.kn_keep_heap.proofs.Fields.{first_word}
 
-module _ (n count : ℕ) (word : ℕ → ℕ) (own : ℕ → ℕ → Option Open) (r : Framed n count word own) (by k nw : ℕ) (less : by < n) (near : k < count)
+module _ (n count : ℕ) (word : ℕ → ℕ) (own : ℕ → ℕ → Option Open) (r : Framed n count word own) (by k nw : ℕ) (less : by < n)
+    (near : k < count)
     (packs : PacksFrame nw) where
   packs_at : (p : ℕ) → p < count → PacksFrame (upd word k nw p)
   packs_at p l = upd_case (λ i w. i < count → PacksFrame w) word k nw (λ _. packs) p (λ _ l. r.packs p l) l
@@ -97,7 +99,8 @@ module _ (z : Ground) (own : ℕ → ℕ → Option Open) (by k : ℕ) where
     not_by c t e i = not_without taken by t none (ap taken i ∙ e)
 
     -- its frames may change, and its sweep
-    pub taken_in_moved : (x : Option Open) (position : ℕ → Position) (sweep sweep' : ℕ → Option Sweep) → ((c : ℕ) → by ≢ c → sweep' c ≡ sweep c) →
+    pub taken_in_moved : (x : Option Open) (position : ℕ → Position) (sweep sweep' : ℕ → Option Sweep) →
+        ((c : ℕ) → by ≢ c → sweep' c ≡ sweep c) →
         TakenIn z position own taken sweep → TakenIn z position (upd own by (upd (own by) k x)) taken sweep'
     taken_in_moved x position sweep sweep' same r = record {
       owned = λ c t l e. let o = r.owned c t l e in (o.0, gets_else own by k x c t.frame (not_by c t e) ∙ o.1, o.2, o.3);
@@ -107,7 +110,8 @@ module _ (z : Ground) (own : ℕ → ℕ → Option Open) (by k : ℕ) where
     none_here : (a : ℕ) → ¬ IsTakenWord (taken by) a
     none_here a h = subst (λ x. IsTakenWord x a) none h
 
-    pub handed_claim : (filled : ℕ → Type 0) (o : Open) (sweep sweep' : ℕ → Option Sweep) → Handed z.sizes (callers z.sizes) filled own taken sweep →
+    pub handed_claim : (filled : ℕ → Type 0) (o : Open) (sweep sweep' : ℕ → Option Sweep) →
+        Handed z.sizes (callers z.sizes) filled own taken sweep →
         AreTheFree (frame_span z.sizes k) filled o.free → Handed z.sizes (callers z.sizes) filled (upd own by (upd (own by) k (Some o))) taken sweep'
     handed_claim filled o sweep sweep' r free = record {
       each = λ c p x l e. gets_case own by k (Some o) (λ c p y. c < callers z.sizes → y ≡ Some x →
@@ -175,7 +179,8 @@ module _ (z : Sizes) (word : ℕ → ℕ) (k nw : ℕ) where
 
 -- in a wholly free frame no object lies
 pub none_in_whole : (z : Sizes) (side : ℕ → ℕ) (frame : Span) (born : ℕ) (shape : ℕ → Shape) (free : List Span) →
-    AreTheFree frame (IsFilled z born shape side) free → free ≡ frame ∷ [] → (n : ℕ) → Lives born shape n → LiesIn (words_of (shape n)) frame → ⊥
+    AreTheFree frame (IsFilled z born shape side) free → free ≡ frame ∷ [] → (n : ℕ) → Lives born shape n →
+    LiesIn (words_of (shape n)) frame → ⊥
 none_in_whole z side frame born shape free r e n l i =
     let f = first_word (shape n) in let i0 = i.0 in let i1 = i.1 in
     let w : HasWord frame (shape n).address = (omega arith, omega arith) in

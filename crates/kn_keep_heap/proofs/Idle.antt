@@ -69,7 +69,8 @@ module _ (z : Ground) (s : State) (by : ℕ) (less : by < z.sizes.threads) (g : 
       at (Some t) e = absurd (not t (subst (λ p. IsAskedBy z p t) is (rule.stands.apart.asked by t (omega arith) e)))
 
   -- an idle caller that has not ended stores its state and stands elsewhere, idle and not in
-  pub idle_moved : (q p : Position) (n : ℕ) → (s.caller by).position ≡ q → IsIdle q → q ≢ Ended → IsIdle p → ¬ IsIn p → state_number p ≡ n →
+  pub idle_moved : (q p : Position) (n : ℕ) → (s.caller by).position ≡ q → IsIdle q → q ≢ Ended → IsIdle p → ¬ IsIn p →
+      state_number p ≡ n →
       Owners z (s.word Phase) (upd V.position by p) V.own →
       RuleOf z g (put s.word (StateOf by) n) s.page (views_of (upd s.caller by (record (s.caller by) { position = p }))) s.history
   idle_moved q p n at idle going idle' out state owners =

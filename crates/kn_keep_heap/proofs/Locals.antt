@@ -9,8 +9,8 @@ use Rattle.kn_rule.specs.declared.positions.Position.TheVariants.{Between, Writi
 use Rattle.kn_rule.specs.ObjectClauses.{address_of, IsWriting, IsValueDue, Localed}
 use Rattle.kn_keep_heap.proofs.Changed.{upd_case3}
 
-module _ (z : Ground) (shape : ℕ → Shape) (value : ℕ → ℕ → Option ℕ) (word : ℕ → ℕ → ℕ) (position : ℕ → Position) (local : ℕ → ℕ →
-    ℕ) (r : Localed z shape value word position local) (by : ℕ) where
+module _ (z : Ground) (shape : ℕ → Shape) (value : ℕ → ℕ → Option ℕ) (word : ℕ → ℕ → ℕ) (position : ℕ → Position)
+    (local : ℕ → ℕ → ℕ) (r : Localed z shape value word position local) (by : ℕ) where
   -- the position changes, and no write begins or ends
   pub locals_moved : (q : Position) → ((i : ℕ) → ¬ IsWriting q i → ¬ IsWriting (position by) i) → IsValueDue q (local by) →
       Localed z shape value word (upd position by q) local

@@ -24,7 +24,8 @@ module _ (own : ℕ → ℕ → Option Open) (by k : ℕ) (x : Option Open) wher
       (upd_here own by (upd (own by) k x)) ∙ upd_else (own by) k x j n) c (λ ne. gets_else c j ne)
 
   -- by cases on whether this is the frame that changed
-  pub gets_case : (P : ℕ → ℕ → Option Open → Type 0) → P by k x → (c j : ℕ) → (by ≢ c → P c j (own c j)) → (k ≢ j → P c j (own c j)) →
+  pub gets_case : (P : ℕ → ℕ → Option Open → Type 0) → P by k x → (c j : ℕ) → (by ≢ c → P c j (own c j)) →
+      (k ≢ j → P c j (own c j)) →
       P c j (upd own by (upd (own by) k x) c j)
   gets_case P here c j a b =
       split_at (λ c. (by ≢ c → P c j (own c j)) → (k ≢ j → P c j (own c j)) → P c j (upd own by (upd (own by) k x) c j)) by
@@ -37,7 +38,8 @@ some_same a b e = cc
 
 -- the free spans or the cursor change
 module _ (own : ℕ → ℕ → Option Open) (by k : ℕ) (old new : Open) (has : own by k ≡ Some old) (same : new.word ≡ old.word) where
-  pub owned_before : (c j : ℕ) (o : Open) → upd own by (upd (own by) k (Some new)) c j ≡ Some o → (y : Open) × (own c j ≡ Some y) × (y.word ≡ o.word)
+  pub owned_before : (c j : ℕ) (o : Open) → upd own by (upd (own by) k (Some new)) c j ≡ Some o →
+      (y : Open) × (own c j ≡ Some y) × (y.word ≡ o.word)
   owned_before c j o e = gets_case own by k (Some new) (λ c j x. x ≡ Some o → (y : Open) × (own c j ≡ Some y) × (y.word ≡ o.word))
       (λ e. (old, has, sym same ∙ ap (λ (y : Open). y.word) (some_same new o e))) c j (λ _ e. (o, e, refl)) (λ _ e. (o, e, refl)) e
 

@@ -113,11 +113,15 @@ module _ (caller : ℕ → View) (by : ℕ) (v : View) where
   rest_put = part_upd rest_of caller by v
 
   -- what the view changes, where the rest of it stays
-  pub views_moved : Stays (caller by) v → {position : ℕ → Position} {local : ℕ → ℕ → ℕ} {header : ℕ → Option ℕ} {own : ℕ → ℕ → Option Open}
+  pub views_moved : Stays (caller by) v → {position : ℕ → Position} {local : ℕ → ℕ → ℕ} {header : ℕ → Option ℕ}
+      {own : ℕ → ℕ → Option Open}
       {taken : ℕ → Option Taken} {log : ℕ → List Entry} →
-      ◌≡◌ {A = ℕ → Position} (λ c. (upd caller by v c).position) position → ◌≡◌ {A = ℕ → ℕ → ℕ} (λ c. local_of (upd caller by v c)) local →
-      ◌≡◌ {A = ℕ → Option ℕ} (λ c. (upd caller by v c).header) header → ◌≡◌ {A = ℕ → ℕ → Option Open} (λ c. owns (upd caller by v c)) own →
-      ◌≡◌ {A = ℕ → Option Taken} (λ c. (upd caller by v c).taken) taken → ◌≡◌ {A = ℕ → List Entry} (λ c. (upd caller by v c).log) log →
+      ◌≡◌ {A = ℕ → Position} (λ c. (upd caller by v c).position) position →
+      ◌≡◌ {A = ℕ → ℕ → ℕ} (λ c. local_of (upd caller by v c)) local →
+      ◌≡◌ {A = ℕ → Option ℕ} (λ c. (upd caller by v c).header) header →
+      ◌≡◌ {A = ℕ → ℕ → Option Open} (λ c. owns (upd caller by v c)) own →
+      ◌≡◌ {A = ℕ → Option Taken} (λ c. (upd caller by v c).taken) taken →
+      ◌≡◌ {A = ℕ → List Entry} (λ c. (upd caller by v c).log) log →
       views_of (upd caller by v)
       ≡ record (views_of caller) { position = position; local = local; header = header; own = own; taken = taken; log = log }
   views_moved e p l h o k g = λ t.
@@ -139,7 +143,8 @@ module _ (caller : ℕ → View) (by : ℕ) (v : View) where
 
   -- a call is answered
   pub views_answer : Stays (caller by) v → {local : ℕ → ℕ → ℕ} {own : ℕ → ℕ → Option Open} {taken : ℕ → Option Taken} →
-      ◌≡◌ {A = ℕ → ℕ → ℕ} (λ c. local_of (upd caller by v c)) local → ◌≡◌ {A = ℕ → ℕ → Option Open} (λ c. owns (upd caller by v c)) own →
+      ◌≡◌ {A = ℕ → ℕ → ℕ} (λ c. local_of (upd caller by v c)) local →
+      ◌≡◌ {A = ℕ → ℕ → Option Open} (λ c. owns (upd caller by v c)) own →
       ◌≡◌ {A = ℕ → Option Taken} (λ c. (upd caller by v c).taken) taken →
       views_of (upd caller by v) ≡ record (views_of caller) {
         position = upd (λ c. (caller c).position) by v.position;

@@ -1,5 +1,6 @@
 -- What the clauses say where one caller's position changes.
-use Rattle.std.proofs.Common.{◌≡◌, ◌≢◌, ℕ, ◌+◌, ◌<◌, ◌≤◌, inl, inr, Bool, true, cond, List, [], ◌∷◌, ◌++◌, length, Option, Some, None, slice_get}
+use Rattle.std.proofs.Common.{◌≡◌, ◌≢◌, ℕ, ◌+◌, ◌<◌, ◌≤◌, inl, inr, Bool, true, cond, List, [], ◌∷◌, ◌++◌, length}
+use Rattle.std.proofs.Common.{Option, Some, None, slice_get}
 use Rattle.std.proofs.Common.{refl, sym, subst, ap, ◌∙◌, arith, length-append}
 use Rattle.std.proofs.lemmas.Bool.Decides.{eqb_tells}
 use Rattle.kn_base.specs.Functions.{upd, Tells}
@@ -66,7 +67,8 @@ module _ (z : Ground) (position : ℕ → Position) (by : ℕ) (q : Position) wh
       Owners z phase (upd position by q) own
   owners_at phase own r f = record { each = λ c p o l e. owner_at phase c f (r.each c p o l e) }
 
-  pub cleared_at : (body : ℕ → ℕ) (local local' : ℕ → ℕ → ℕ) (taken : ℕ → Option Taken) → ((c : ℕ) → by ≢ c → local' c ≡ local c) →
+  pub cleared_at : (body : ℕ → ℕ) (local local' : ℕ → ℕ → ℕ) (taken : ℕ → Option Taken) →
+      ((c : ℕ) → by ≢ c → local' c ≡ local c) →
       Cleared z body local position taken → IsCleared z body (local' by) q (taken by) → Cleared z body local' (upd position by q) taken
   cleared_at body local local' taken same r h = record {
     each = λ c l. upd_case (λ k p. k < callers z.sizes → IsCleared z body (local' k) p (taken k)) position by q (λ _. h) c

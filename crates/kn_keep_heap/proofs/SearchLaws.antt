@@ -1,5 +1,6 @@
 -- The laws of steps of a search: a look at a frame, and a claim of one.
-use Rattle.std.proofs.Common.{◌≡◌, ◌≢◌, ℕ, ◌^◌, ◌<◌, ◌≤◌, inl, inr, Bool, true, false, cond, eqb, [], ◌∷◌, ◌++◌, length, Option, Some, None}
+use Rattle.std.proofs.Common.{◌≡◌, ◌≢◌, ℕ, ◌^◌, ◌<◌, ◌≤◌, inl, inr, Bool, true, false, cond, eqb, [], ◌∷◌, ◌++◌}
+use Rattle.std.proofs.Common.{length, Option, Some, None}
 use Rattle.std.proofs.Common.{slice_set}
 use Rattle.std.proofs.Common.{refl, sym, subst, ap, ◌∙◌, arith, length-set}
 use Rattle.std.specs.Prelude.{IsTrue}

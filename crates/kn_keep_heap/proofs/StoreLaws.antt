@@ -1,5 +1,6 @@
 -- The laws of steps that store a local or a global.
-use Rattle.std.proofs.Common.{◌≡◌, ℕ, ◌<◌, ◌==◌, [], ◌∷◌, ◌++◌, length, Bool, true, false, cond, Option, None, slice_set, refl, sym, subst}
+use Rattle.std.proofs.Common.{◌≡◌, ℕ, ◌<◌, ◌==◌, [], ◌∷◌, ◌++◌, length, Bool, true, false, cond, Option, None, slice_set, refl}
+use Rattle.std.proofs.Common.{sym, subst}
 use Rattle.std.proofs.Common.{ap, ◌∙◌, arith, length-set}
 use Rattle.kn_base.specs.declared.places.Place.TheVariants.{Phase, Want, State as StateOf, Local, Global, Body}
 use Rattle.kn_base.specs.Functions.{upd}

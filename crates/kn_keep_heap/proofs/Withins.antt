@@ -66,7 +66,8 @@ module _ (z : Ground) (good : IsGoodGround z) (s : State) (by : ℕ) (less : by 
 
   field_within : (call : Call) (t i : ℕ) (k : FieldKind) → (s.caller by).position ≡ Calling call → field_of call ≡ Some (t, i, k) → t ≤ 15 →
       (hd : ℕ) →
-      (s.caller by).header ≡ Some hd → 0 < local_of (s.caller by) t → told_kind z hd i ≡ Some k → (b : ℕ) → b ≡ local_of (s.caller by) t + 1 + i →
+      (s.caller by).header ≡ Some hd → 0 < local_of (s.caller by) t → told_kind z hd i ≡ Some k → (b : ℕ) →
+      b ≡ local_of (s.caller by) t + 1 + i →
       b < word_count z.sizes + 1
   field_within call t i k is asks fit hd has pos kind b e =
       let small = below_sixteen t fit in

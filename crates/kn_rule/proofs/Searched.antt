@@ -1,5 +1,6 @@
 -- A search is done with frames exactly where each of them is ruled out.
-use Rattle.std.proofs.Common.{◌≡◌, ℕ, zero, suc, ◌+◌, ◌<◌, ◌⊎◌, inl, inr, Bool, true, false, not, ◌&&◌, ◌||◌, List, Option, Some, None, slice_get}
+use Rattle.std.proofs.Common.{◌≡◌, ℕ, zero, suc, ◌+◌, ◌<◌, ◌⊎◌, inl, inr, Bool, true, false, not, ◌&&◌, ◌||◌, List, Option}
+use Rattle.std.proofs.Common.{Some, None, slice_get}
 use Rattle.std.proofs.Common.{refl, ap, ◌∙◌, arith}
 use Rattle.kn_base.proofs.Updates.{split_at}
 use Rattle.kn_rule.specs.Requests.{is_usable}

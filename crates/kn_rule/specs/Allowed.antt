@@ -1,5 +1,6 @@
 -- When a caller's view allows a step of each kind.
-use Rattle.std.specs.Prelude.{◌≡◌, ◌≢◌, ℕ, ◌+◌, ◌*◌, ◌<◌, ◌⊎◌, Bool, true, false, Option, Some, None, IsTrue, slice_get, slice_index}
+use Rattle.std.specs.Prelude.{◌≡◌, ◌≢◌, ℕ, ◌+◌, ◌*◌, ◌<◌, ◌⊎◌, Bool, true, false, Option, Some, None, IsTrue, slice_get}
+use Rattle.std.specs.Prelude.{slice_index}
 use Rattle.kn_base.specs.declared.places.Place.{Place}
 use Rattle.kn_base.specs.declared.places.Place.TheVariants.{Phase, State, Local, Global, Frame, Side, Body}
 use Rattle.kn_base.specs.Words.{packed_frame}

@@ -60,11 +60,13 @@ IsReadAt shape local (Calling call) h = IsReadFor shape local (field_of call) h
 IsReadAt shape local _ h = Unit {0}
 
 -- the layout and the length that a view has read for its call are those of the object
-pub record ReadRight (z : Ground) (shape : ℕ → Shape) (local : ℕ → ℕ → Option ℕ) (position : ℕ → Position) (header : ℕ → Option ℕ) : Type 0 where
+pub record ReadRight (z : Ground) (shape : ℕ → Shape) (local : ℕ → ℕ → Option ℕ) (position : ℕ → Position)
+    (header : ℕ → Option ℕ) : Type 0 where
   pub each : (c : ℕ) → c < z.sizes.threads → IsReadAt shape (local c) (position c) (header c)
 
 -- the field words of each object that is not condemned are its fields, references by address
-pub record Fielded (z : Ground) (born : ℕ) (shape : ℕ → Shape) (points : ℕ → ℕ → Option ℕ) (number : ℕ → ℕ → ℕ) (body : ℕ → ℕ) : Type 0 where
+pub record Fielded (z : Ground) (born : ℕ) (shape : ℕ → Shape) (points : ℕ → ℕ → Option ℕ) (number : ℕ → ℕ → ℕ)
+    (body : ℕ → ℕ) : Type 0 where
   pub refs : (n i : ℕ) → n < born → (shape n).condemned ≡ false → field_kind z (shape n) i ≡ Some of_ref →
       body ((shape n).address + 1 + i) ≡ address_of shape (points n i)
   pub ints : (n i : ℕ) → n < born → (shape n).condemned ≡ false → field_kind z (shape n) i ≡ Some of_int →

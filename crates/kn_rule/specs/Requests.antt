@@ -1,5 +1,6 @@
 -- What a call needs: a cell, its class, a frame of its area, the words that it is cleared to, and a field of a kind.
-use Rattle.std.specs.Prelude.{◌≡◌, ℕ, ◌+◌, ◌*◌, ◌<◌, ◌≤◌, ◌==◌, Bool, true, false, cond, ◌&&◌, ◌||◌, not, List, [], ◌∷◌, Option}
+use Rattle.std.specs.Prelude.{◌≡◌, ℕ, ◌+◌, ◌*◌, ◌<◌, ◌≤◌, ◌==◌, Bool, true, false, cond, ◌&&◌, ◌||◌, not, List, []}
+use Rattle.std.specs.Prelude.{◌∷◌, Option}
 use Rattle.std.specs.Prelude.{Some, None, nat_le, nat_lt}
 use Rattle.kn_base.specs.declared.numbers.Span.{Span}
 use Rattle.kn_base.specs.declared.heap.Sizes.{Sizes}

@@ -25,7 +25,8 @@ use Rattle.kn_rule.specs.FrameClauses.{Framed, IsFilled, Housed, Handed, Classed
 
 -- the clauses that speak of words, pages and objects, and of where callers stand, part by part
 pub record Standing (z : Ground) (paused done born : ℕ) (shape : ℕ → Shape) (points : ℕ → ℕ → Option ℕ) (number : ℕ → ℕ → ℕ)
-    (global stable weak back : ℕ → Option ℕ) (count : ℕ → ℕ) (phase want : ℕ) (state_word global_word node_word frame_word side body : ℕ → ℕ)
+    (global stable weak back : ℕ → Option ℕ) (count : ℕ → ℕ) (phase want : ℕ) (state_word global_word node_word frame_word side body : ℕ →
+    ℕ)
     (page : ℕ → Option FrameView) (position : ℕ → Position) (polled : ℕ → ℕ) (target : ℕ → Option ℕ) (local : ℕ → ℕ → ℕ)
     (own : ℕ → ℕ → Option Open) (taken : ℕ → Option Taken) (log : ℕ → List Entry) (rest : ℕ → Rest) : Type 0 where
   pub timed : Timed paused done phase (rest z.sizes.threads).collecting.stored
