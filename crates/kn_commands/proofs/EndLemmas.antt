@@ -5,7 +5,7 @@ use Rattle.kn_graph.specs.declared.entries.Entry.{Entry}
 use Rattle.kn_io.specs.Counts.{NeverFalls}
 use Rattle.kn_io.specs.Devices.{Devices, SourceFailed, SinkFailed}
 use Rattle.kn_io.specs.Told.{GivesAll, GivesSome, Appends, AppendsPrefix}
-use Rattle.kn_script.specs.declared.built.TheConstants.{TODAY}
+use Rattle.kn_lines.specs.declared.built.TheConstants.{TODAY}
 use Rattle.kn_script.specs.Scripts.{Scripted}
 use Rattle.kn_script.specs.Grammar.{IsText}
 use Rattle.kn_script.specs.Laws.{NoTextIsBad, TextsAreOfOneScript}

@@ -5,7 +5,6 @@ use Rattle.std.specs.Prelude.{IsTrue, All, Option, Some, None, Result, Ok, Err, 
 use Rattle.std.specs.Option.{option_map}
 use Rattle.kn_base.specs.declared.heap.Sizes.{Sizes}
 use Rattle.kn_layout.specs.declared.layouts.Layout.{Layout}
-use Rattle.kn_script.specs.declared.orders.OrderWord.{OrderWord}
 use Rattle.kn_commands.specs.declared.runs.Made.{Made}
 use Rattle.std.proofs.Math.Nat.{mul-le-mul_right}
 use Rattle.std.proofs.lemmas.Bool.{cases_lt}
@@ -19,6 +18,7 @@ use Rattle.kn_graph.specs.Logs.{log_of}
 use Rattle.kn_objects.specs.Replay.{graph_of}
 use Rattle.kn_report.specs.Reports.{report_text}
 use Rattle.kn_schedule.specs.Schedules.{IsInFull, times, turns_of}
+use Rattle.kn_lines.specs.declared.orders.OrderWord.{OrderWord}
 use Rattle.kn_script.specs.Scripts.{Scripted, ground_of, counts_of}
 use Rattle.kn_script.specs.Good.{IsGoodScript}
 use Rattle.kn_commands.specs.Kept.{Kept}

@@ -3,10 +3,6 @@ use Rattle.std.proofs.Common.{◌≡◌, ℕ, zero, suc, ◌+◌, ◌<◌, ◌�
 use Rattle.std.proofs.Common.{get_or, slice_index_or, refl, sym, ◌∙◌, ap, subst, arith, eq-eqb}
 use Rattle.std.specs.Prelude.{count_by, filter_map, All}
 use Rattle.std.proofs.lemmas.List.Elements.{All-from_recursion}
-use Rattle.kn_script.specs.declared.orders.Actor.TheVariants as who
-use Rattle.kn_script.specs.declared.orders.OrderWord.{OrderWord}
-use Rattle.kn_script.specs.declared.orders.OrderWord.TheVariants.{Run, Uninstall}
-use Rattle.kn_script.specs.Good.{IsOrderWord}
 use Rattle.std.proofs.lemmas.List.{map-append, take_more, get_or_past}
 use Rattle.std.proofs.lemmas.List.Sums.{length-filter, sum_by-append, sum_by-take-le}
 use Rattle.std.proofs.lemmas.Bool.{cases_lt}
@@ -21,6 +17,10 @@ use Rattle.std.specs.List.{AllByRecursion}
 use Rattle.kn_schedule.specs.Schedules.{times}
 use Rattle.kn_commands.specs.Runs.{HasTaken, MayTake, NotesNext, callers_of, calls_at, named}
 use Rattle.kn_graph.specs.Ground.{Ground}
+use Rattle.kn_lines.specs.declared.orders.Actor.TheVariants as who
+use Rattle.kn_lines.specs.declared.orders.OrderWord.{OrderWord}
+use Rattle.kn_lines.specs.declared.orders.OrderWord.TheVariants.{Run, Uninstall}
+use Rattle.kn_lines.specs.Ranges.{IsOrderWord}
 use Rattle.kn_commands.specs.Kept.{Kept}
 use Rattle.kn_commands.specs.Stands.{Notes, StandsFor}
 

@@ -6,8 +6,8 @@ use Rattle.kn_io.specs.Counts.{Rose, NeverFalls}
 use Rattle.kn_io.specs.Devices.{Devices, SourceFailed, SinkFailed}
 use Rattle.kn_io.specs.Told.{GivesAll, GivesSome, Appends, AppendsPrefix}
 use Rattle.kn_report.specs.Reports.{line, report_text}
+use Rattle.kn_lines.specs.declared.built.TheConstants.{TODAY}
 use Rattle.kn_script.specs.declared.faults.Why.{Why}
-use Rattle.kn_script.specs.declared.built.TheConstants.{TODAY}
 use Rattle.kn_script.specs.Scripts.{Scripted}
 use Rattle.kn_base.specs.declared.limits.TheConstants.{LONGEST_TEXT}
 use Rattle.kn_script.specs.Grammar.{IsText, IsBad}

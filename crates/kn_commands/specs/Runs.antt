@@ -9,9 +9,9 @@ use Rattle.kn_graph.specs.Histories.{IsLegal}
 use Rattle.kn_graph.specs.Logs.{LogsFit, log_of, calls_of, IsComplete, IsPartial}
 use Rattle.kn_report.specs.Reports.{report_text}
 use Rattle.kn_schedule.specs.Schedules.{times, turns_of}
-use Rattle.kn_script.specs.declared.orders.Actor.TheVariants.{Thread}
-use Rattle.kn_script.specs.declared.orders.OrderWord.{OrderWord}
-use Rattle.kn_script.specs.declared.orders.OrderWord.TheVariants.{Run}
+use Rattle.kn_lines.specs.declared.orders.Actor.TheVariants.{Thread}
+use Rattle.kn_lines.specs.declared.orders.OrderWord.{OrderWord}
+use Rattle.kn_lines.specs.declared.orders.OrderWord.TheVariants.{Run}
 use Rattle.kn_script.specs.Scripts.{Scripted, ground_of}
 use Rattle.kn_commands.specs.Births.{births_of}
 use Rattle.kn_commands.specs.Kept.{RunRecord}

@@ -7,7 +7,8 @@ ghost use Rattle.kn_graph.specs.Ground.{IsGoodGround};
 ghost use Rattle.kn_graph.specs.Logs.{log_of};
 ghost use Rattle.kn_report.specs.Reports.{report_text};
 ghost use Rattle.kn_schedule.specs.Schedules.{IsInFull, turns_of};
-ghost use Rattle.kn_script.specs.Good.{IsGoodScript, IsOrderWord};
+ghost use Rattle.kn_lines.specs.Ranges.{IsOrderWord};
+ghost use Rattle.kn_script.specs.Good.{IsGoodScript};
 ghost use Rattle.kn_commands.specs.Runs.{AreAnswerable, AreRunnable, HasTaken, IsReported, IsRunOf, MayTake, NotesNext, calls_at, named};
 ghost use Rattle.kn_commands.specs.Stands.{StandsFor};
 
@@ -16,9 +17,10 @@ use crate::machine::Machine;
 use kn_base::Sizes;
 use kn_graph::Call;
 use kn_layout::Layout;
+use kn_lines::{Actor, OrderWord};
 use kn_report::report;
 use kn_schedule::turns_of;
-use kn_script::{Actor, Calls, OrderWord, Script};
+use kn_script::{Calls, Script};
 use std::alloc::{AllocError, Global};
 
 /// A run that was made: what it leaves, and the text of its report, or none where its turns were

@@ -7,15 +7,16 @@ use Rattle.kn_graph.specs.declared.calls.Call.{Call}
 use Rattle.kn_graph.specs.declared.arguments.CallWord.{CallWord}
 use Rattle.kn_graph.specs.declared.arguments.CallWord.TheVariants as call
 use Rattle.kn_graph.specs.Arguments.{word_of}
-use Rattle.kn_script.specs.declared.built.Built.{Built}
-use Rattle.kn_script.specs.declared.built.HeaderWord.{HeaderWord}
-use Rattle.kn_script.specs.declared.built.HeaderWord.TheVariants as header
-use Rattle.kn_script.specs.declared.built.FirstWord.{FirstWord}
-use Rattle.kn_script.specs.declared.built.FirstWord.TheVariants.{Header, Call as CallLine}
-use Rattle.kn_script.specs.Built.{has_call, only_if, if_built, first_word_of, call_word_of, header_word_of, IsBuilt, AreBuilt}
-use Rattle.kn_script.specs.Lines.{Numbered, unread}
+use Rattle.kn_lines.specs.declared.built.Built.{Built}
+use Rattle.kn_lines.specs.declared.built.HeaderWord.{HeaderWord}
+use Rattle.kn_lines.specs.declared.built.HeaderWord.TheVariants as header
+use Rattle.kn_lines.specs.declared.built.FirstWord.{FirstWord}
+use Rattle.kn_lines.specs.declared.built.FirstWord.TheVariants.{Header, Call as CallLine}
+use Rattle.kn_lines.specs.Built.{has_call, only_if, if_built, first_word_of, call_word_of, header_word_of, IsBuilt, AreBuilt}
+use Rattle.kn_lines.specs.Lines.{Numbered, unread}
+use Rattle.kn_lines.specs.Values.{call_from, call_of, values_of}
 use Rattle.kn_script.specs.Scripts.{Scripted, Progress}
-use Rattle.kn_script.specs.Progress.{start, behind, behind_header, call_from, call_of, values_of, with_call}
+use Rattle.kn_script.specs.Progress.{start, behind, behind_header, with_call}
 use Rattle.kn_script.specs.Grammar.{Takes, Reads, IsText}
 use Rattle.kn_script.proofs.GoodLemmas.{All-set, All-at}
 

@@ -11,23 +11,26 @@ use Rattle.kn_graph.specs.declared.arguments.Argument.{Argument}
 use Rattle.kn_graph.specs.declared.arguments.Argument.TheVariants as argument
 use Rattle.kn_graph.specs.Ground.{Ground}
 use Rattle.kn_graph.specs.Arguments.{arguments_of, IsFieldsLayout, IsArrayLayout, Fits, AllFit, IsInRange}
+use Rattle.kn_lines.specs.declared.built.HeaderWord.{HeaderWord}
+use Rattle.kn_lines.specs.declared.built.HeaderWord.TheVariants as header
+use Rattle.kn_lines.specs.declared.built.FirstWord.{FirstWord}
+use Rattle.kn_lines.specs.declared.built.FirstWord.TheVariants.{Header, Call}
+use Rattle.kn_lines.specs.declared.forms.Form.{Form}
+use Rattle.kn_lines.specs.declared.forms.Wanted.{Wanted}
+use Rattle.kn_lines.specs.declared.forms.Wanted.TheVariants as wanted
+use Rattle.kn_lines.specs.Numbers.{number_of, value_of, value_at}
+use Rattle.kn_lines.specs.Forms.{form_of, form_of_arguments, if_argument, nth_wanted, wanted_at, heap_places_of, names_places_of}
+use Rattle.kn_lines.specs.Values.{values_of, call_of}
+use Rattle.kn_lines.specs.Ranges.{AreWithin}
+use Rattle.kn_lines.specs.Kept.{IsSmall, AllSmall}
 use Rattle.kn_script.specs.declared.faults.Why.{Why}
 use Rattle.kn_script.specs.declared.faults.Why.TheVariants.{Range, Late}
-use Rattle.kn_script.specs.declared.built.HeaderWord.{HeaderWord}
-use Rattle.kn_script.specs.declared.built.HeaderWord.TheVariants as header
-use Rattle.kn_script.specs.declared.built.FirstWord.{FirstWord}
-use Rattle.kn_script.specs.declared.built.FirstWord.TheVariants.{Header, Call}
-use Rattle.kn_script.specs.declared.forms.Form.{Form}
-use Rattle.kn_script.specs.declared.forms.Wanted.{Wanted}
-use Rattle.kn_script.specs.declared.forms.Wanted.TheVariants as wanted
-use Rattle.kn_script.specs.Numbers.{number_of, value_of, value_at}
-use Rattle.kn_script.specs.Forms.{form_of, form_of_arguments, if_argument, nth_wanted, wanted_at, heap_places_of, names_places_of}
 use Rattle.kn_script.specs.Scripts.{Progress, ground_of}
-use Rattle.kn_script.specs.Progress.{values_of, call_of, script_of}
+use Rattle.kn_script.specs.Progress.{script_of}
 use Rattle.kn_script.specs.Reasons.{when, is_no_thread, is_no_name, if_fields, if_array, is_misfit, MeetsNone}
 use Rattle.kn_script.specs.Reasons.{number_reason, of_number, reason_at, word_reasons}
 use Rattle.kn_script.specs.Good.{ground_with}
-use Rattle.kn_script.specs.Readings.{FitsAt, AreWithin, IsSmall, AllSmall}
+use Rattle.kn_script.specs.Readings.{FitsAt}
 use Rattle.kn_script.proofs.ReasonLemmas.{and_then-nothing, when-none, outside-not, and-not}
 
 -- a line with a first word that meets no reason

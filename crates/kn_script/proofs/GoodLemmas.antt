@@ -17,31 +17,33 @@ use Rattle.kn_graph.specs.declared.calls.Call.{Call as Made}
 use Rattle.kn_graph.specs.Ground.{Ground}
 use Rattle.kn_graph.specs.Arguments.{arguments_of, word_of, numbers_of, IsInRange}
 use Rattle.kn_graph.specs.Counts.{makes_object, births_among}
+use Rattle.kn_lines.specs.declared.built.Built.{Built}
+use Rattle.kn_lines.specs.declared.built.HeaderWord.{HeaderWord}
+use Rattle.kn_lines.specs.declared.built.HeaderWord.TheVariants as header
+use Rattle.kn_lines.specs.declared.built.FirstWord.{FirstWord}
+use Rattle.kn_lines.specs.declared.built.FirstWord.TheVariants.{Header, Call}
+use Rattle.kn_lines.specs.declared.orders.OrderWord.{OrderWord}
+use Rattle.kn_lines.specs.declared.forms.Wanted.TheVariants as wanted
+use Rattle.kn_lines.specs.Lines.{Numbered}
+use Rattle.kn_lines.specs.Numbers.{value_at}
+use Rattle.kn_lines.specs.Orders.{order_of}
+use Rattle.kn_lines.specs.Forms.{line_form_of, open_form_of, array_places_of}
+use Rattle.kn_lines.specs.Values.{values_of, frames_from, call_of, kind_of, layout_of, array_from}
+use Rattle.kn_lines.specs.Ranges.{is_long_layout, IsOrderWord}
+use Rattle.kn_lines.specs.Kept.{IsSmallCall}
+use Rattle.kn_lines.proofs.OrderLemmas.{orders-good}
 use Rattle.kn_script.specs.declared.faults.Why.TheVariants.{Word}
-use Rattle.kn_script.specs.declared.built.Built.{Built}
-use Rattle.kn_script.specs.declared.built.HeaderWord.{HeaderWord}
-use Rattle.kn_script.specs.declared.built.HeaderWord.TheVariants as header
-use Rattle.kn_script.specs.declared.built.FirstWord.{FirstWord}
-use Rattle.kn_script.specs.declared.built.FirstWord.TheVariants.{Header, Call}
-use Rattle.kn_script.specs.declared.orders.OrderWord.{OrderWord}
-use Rattle.kn_script.specs.declared.forms.Wanted.TheVariants as wanted
-use Rattle.kn_script.specs.Lines.{Numbered}
-use Rattle.kn_script.specs.Numbers.{value_at}
-use Rattle.kn_script.specs.Orders.{order_of}
-use Rattle.kn_script.specs.Forms.{line_form_of, open_form_of, array_places_of}
 use Rattle.kn_script.specs.Scripts.{Scripted, Progress}
-use Rattle.kn_script.specs.Progress.{start, behind, script_of, values_of, frames_from, call_of, kind_of, layout_of, array_from}
-use Rattle.kn_script.specs.Reasons.{reason_at, word_reasons, is_long_layout, is_late, MeetsNone}
+use Rattle.kn_script.specs.Progress.{start, behind, script_of}
+use Rattle.kn_script.specs.Reasons.{reason_at, word_reasons, is_late, MeetsNone}
 use Rattle.kn_script.specs.Grammar.{Takes, Reads}
 use Rattle.kn_script.specs.Laws.{TextsAreGood}
-use Rattle.kn_script.specs.Good.{IsOrderWord, IsGoodScript, IsGoodProgress, AreThreads, AreCalls, AreOrderWords, ground_with, sizes_of_frames}
-use Rattle.kn_script.specs.Readings.{IsSmallCall}
+use Rattle.kn_script.specs.Good.{IsGoodScript, IsGoodProgress, AreThreads, AreCalls, AreOrderWords, ground_with, sizes_of_frames}
 use Rattle.kn_script.proofs.ReasonLemmas.{and_then-nothing, when-none, and-not}
-use Rattle.kn_script.proofs.OrderLemmas.{orders-fit, orders-good}
+use Rattle.kn_script.proofs.OrderFits.{orders-fit}
 use Rattle.kn_script.proofs.SizeLemmas.{counts-length, counts-past, counts-less, counts-sum}
 use Rattle.kn_script.proofs.FitLemmas.{MeetsNone-count, MeetsNone-stage, MeetsNone-number, MeetsNone-thread, MeetsNone-in_block, MeetsNone-heap}
-use Rattle.kn_script.proofs.FitLemmas.{MeetsNone-names}
-use Rattle.kn_script.proofs.FitLemmas.{call-in_range, fit-small, all-script}
+use Rattle.kn_script.proofs.FitLemmas.{MeetsNone-names, call-in_range, fit-small, all-script}
 
 -- lists of things of one kind
 pub All-set : {X : Type 0} (P : X → Type 0) (xs : List X) (i : ℕ) (y : X) → AllByRecursion P xs → P y → AllByRecursion P (set xs i y)

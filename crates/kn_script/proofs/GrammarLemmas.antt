@@ -4,14 +4,14 @@ use Rattle.std.proofs.Common.{arith}
 use Rattle.std.proofs.lemmas.Option.{same_Some}
 use Rattle.std.proofs.lemmas.Bool.{cases_lt}
 use Rattle.kn_base.specs.declared.limits.TheConstants.{LONGEST_TEXT}
+use Rattle.kn_lines.specs.declared.built.FirstWord.{FirstWord}
+use Rattle.kn_lines.specs.Lines.{Numbered, unread, has_odd_byte}
+use Rattle.kn_lines.specs.declared.built.Built.{Built}
+use Rattle.kn_lines.specs.Built.{first_word_of}
 use Rattle.kn_script.specs.declared.faults.Fault.{Fault}
 use Rattle.kn_script.specs.declared.faults.Fault.TheVariants.{Bad, Memory}
 use Rattle.kn_script.specs.declared.faults.Why.{Why}
 use Rattle.kn_script.specs.declared.faults.Why.TheVariants.{Word, Count, Long}
-use Rattle.kn_script.specs.declared.built.FirstWord.{FirstWord}
-use Rattle.kn_script.specs.Lines.{Numbered, unread, has_odd_byte}
-use Rattle.kn_script.specs.declared.built.Built.{Built}
-use Rattle.kn_script.specs.Built.{first_word_of}
 use Rattle.kn_script.specs.Scripts.{Scripted, Progress}
 use Rattle.kn_script.specs.Progress.{start, behind, script_of}
 use Rattle.kn_script.specs.Reasons.{reasons_of, if_known, reasons, first_of, IsAmong, IsFirst}

@@ -1,11 +1,8 @@
-pub mod PieceLemmas
-pub mod NumberLemmas
-pub mod OrderLemmas
 pub mod ReasonLemmas
+pub mod OrderFits
 pub mod GrammarLemmas
 pub mod ValueLemmas
 pub mod SizeLemmas
 pub mod FitLemmas
 pub mod GoodLemmas
 pub mod BuiltLemmas
-pub mod WordLemmas

@@ -1,18 +1,17 @@
 -- The first one of the reasons that a line meets.
 use Rattle.std.proofs.Common.{◌≡◌, ◌⊎◌, inl, inr, ℕ, ◌+◌, ◌<◌, ◌≤◌, nat_le, nat_lt, ◌&&◌, Bool, true, false, cond, Option, Some, None, List, [], ◌∷◌}
-use Rattle.std.proofs.Common.{length, refl, ap, sym, ◌∙◌, subst, arith}
+use Rattle.std.proofs.Common.{refl, ap, sym, ◌∙◌, subst, arith}
 use Rattle.std.proofs.lemmas.Bool.{ltb-false, or_parts, leb-true, leb-false, le-leb, lt-leb, cond-true, cond-false}
-use Rattle.std.proofs.lemmas.List.{get_or_past}
 use Rattle.std.proofs.lemmas.Option.{same_Some}
+use Rattle.kn_lines.specs.declared.built.FirstWord.{FirstWord}
+use Rattle.kn_lines.specs.declared.forms.Form.{Form}
+use Rattle.kn_lines.specs.Forms.{form_of, wanted_at}
+use Rattle.kn_lines.specs.Ranges.{is_outside}
 use Rattle.kn_script.specs.declared.faults.Why.{Why}
 use Rattle.kn_script.specs.declared.faults.Why.TheVariants.{Word, Range, Count, Order, Late}
-use Rattle.kn_script.specs.declared.built.FirstWord.{FirstWord}
-use Rattle.kn_script.specs.declared.forms.Form.{Form}
-use Rattle.kn_script.specs.Forms.{form_of, wanted_at}
 use Rattle.kn_script.specs.Scripts.{Progress}
-use Rattle.kn_script.specs.Reasons.{row, is_word, when, and_then, sooner, earlier, first_of, IsAmong, StandsFirst, is_outside}
-use Rattle.kn_script.specs.Reasons.{word_reasons, further_reasons, is_too_much, is_other_count, is_early, is_late, reasons_of}
-use Rattle.kn_script.specs.Reasons.{MeetsNone}
+use Rattle.kn_script.specs.Reasons.{row, is_word, when, and_then, sooner, earlier, first_of, IsAmong, StandsFirst}
+use Rattle.kn_script.specs.Reasons.{word_reasons, further_reasons, is_too_much, is_other_count, is_early, is_late, reasons_of, MeetsNone}
 
 -- which of two reasons stands first
 sooner-cases : (why other : Why) →
@@ -141,12 +140,12 @@ word-earlier (Some Word) (Some other) e = cond-true _ (Some Word) (Some other) (
 word-earlier (Some why) other e = absurd cc
 
 -- past the first places each word is looked at in one way
-pub word_reasons-further : (p : Progress) (form : Form) (place : ℕ) (words : List (List ℕ)) → length form.places ≤ place →
-    word_reasons p form place words ≡ further_reasons p form.further words
+pub word_reasons-further : (p : Progress) (form : Form) (place : ℕ) (words : List (List ℕ)) →
+    ((k : ℕ) → place ≤ k → wanted_at form k ≡ form.further) → word_reasons p form place words ≡ further_reasons p form.further words
 word_reasons-further p form place [] past = refl
 word_reasons-further p form place (word ∷ words) past =
-    let want : wanted_at form place ≡ form.further = get_or_past form.places place form.further past in
-    rw (want, word_reasons-further p form (place + 1) words (omega (arith, past))) refl
+    let behind = word_reasons-further p form (place + 1) words (λ k h. past k (omega (arith, h))) in
+    rw (past place (omega arith), behind) refl
 
 -- one more reason is looked at
 pub first_of-more : (all rest : List Why) (found reason next total : Option Why) → all ≡ and_then reason rest → next ≡ earlier found reason →

@@ -1,7 +1,7 @@
 -- The numbers at the first places of a line.
 use Rattle.std.proofs.Common.{◌≡◌, ℕ, zero, suc, ◌+◌, ◌≤◌, List, [], ◌∷◌, length, set, refl, ap, sym, ◌∙◌, arith}
-use Rattle.kn_script.specs.Numbers.{value_of}
-use Rattle.kn_script.specs.Progress.{values_of}
+use Rattle.kn_lines.specs.Numbers.{value_of}
+use Rattle.kn_lines.specs.Values.{values_of}
 use Rattle.kn_script.specs.Readings.{written}
 
 -- the value of one more word is written

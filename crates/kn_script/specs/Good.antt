@@ -1,48 +1,21 @@
 -- Which scripts are good, and what holds of a progress between any two lines.
-use Rattle.std.specs.Prelude.{◌≡◌, ℕ, ◌<◌, ◌≤◌, List, [], length, sum_by, IfSome}
+use Rattle.std.specs.Prelude.{◌≡◌, ℕ, ◌<◌, ◌≤◌, List, [], length, sum_by}
 use Rattle.std.specs.List.{AllByRecursion}
 use Rattle.kn_base.specs.declared.heap.Sizes.{Sizes}
 use Rattle.kn_base.specs.Sizes.{Between, FramesFit, NamesFit, IsGood}
-use Rattle.kn_base.specs.declared.limits.TheConstants.{MOST_THREADS, MOST_LAYOUTS, MOST_CALLS, MOST_CLEANERS, MOST_ORDER_WORDS}
+use Rattle.kn_base.specs.declared.limits.TheConstants.{MOST_THREADS, MOST_LAYOUTS, MOST_CALLS, MOST_ORDER_WORDS}
 use Rattle.kn_layout.specs.declared.layouts.Layout.{Layout}
 use Rattle.kn_layout.specs.Layouts.{IsLayout}
 use Rattle.kn_graph.specs.declared.calls.Call.{Call}
 use Rattle.kn_graph.specs.Ground.{Ground}
 use Rattle.kn_graph.specs.Arguments.{IsInRange}
-use Rattle.kn_script.specs.declared.built.Built.{Built}
-use Rattle.kn_script.specs.declared.header_lines.FrameSizes.{FrameSizes}
-use Rattle.kn_script.specs.declared.header_lines.NameCounts.{NameCounts}
-use Rattle.kn_script.specs.declared.orders.TheConstants.{MOST_TIMES}
-use Rattle.kn_script.specs.declared.orders.Actor.{Actor}
-use Rattle.kn_script.specs.declared.orders.Actor.TheVariants as who
-use Rattle.kn_script.specs.declared.orders.Until.{Until}
-use Rattle.kn_script.specs.declared.orders.Until.TheVariants as until
-use Rattle.kn_script.specs.declared.orders.OrderWord.{OrderWord}
-use Rattle.kn_script.specs.declared.orders.OrderWord.TheVariants.{Run, Uninstall}
-use Rattle.kn_script.specs.Orders.{order_of}
+use Rattle.kn_lines.specs.declared.header_lines.FrameSizes.{FrameSizes}
+use Rattle.kn_lines.specs.declared.header_lines.NameCounts.{NameCounts}
+use Rattle.kn_lines.specs.declared.orders.OrderWord.{OrderWord}
+use Rattle.kn_lines.specs.Values.{no_frames, no_names}
+use Rattle.kn_lines.specs.Ranges.{IsOrderWord}
 use Rattle.kn_script.specs.Scripts.{Scripted, Progress, Counts, ground_of}
-use Rattle.kn_script.specs.Progress.{no_frames, no_names, sizes_with}
-
--- an actor that is there
-abbrev pub IsActor : ℕ → Actor → Type 0
-IsActor threads (who.Thread n) = n < threads
-IsActor threads _ = Unit {0}
-
--- an end that is in range for this actor; calls are counted of a thread alone
-abbrev pub IsUntil : Actor → Until → Type 0
-IsUntil (who.Thread n) (until.Calls count) = Between 1 MOST_TIMES count
-IsUntil _ (until.Calls count) = ⊥
-IsUntil actor (until.Turns count) = Between 1 MOST_TIMES count
-IsUntil actor (until.Code p) = Unit {0}
-
--- an order word in its ranges, with so many threads
-abbrev pub IsOrderWord : ℕ → OrderWord → Type 0
-IsOrderWord threads (Run actor u) = IsActor threads actor × IsUntil actor u
-IsOrderWord threads (Uninstall cleaner) = cleaner < MOST_CLEANERS
-
--- the order words that words spell are in their ranges, with so many threads
-abbrev pub AreInRange : Built → ℕ → List (List ℕ) → Type 0
-AreInRange built threads words = AllByRecursion (λ word. IfSome (order_of built word) (IsOrderWord threads)) words
+use Rattle.kn_script.specs.Progress.{sizes_with}
 
 -- the script is within the limits, its sizes count its calls and births, and every layout, call and order word is in
 -- its ranges

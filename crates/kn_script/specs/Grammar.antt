@@ -2,15 +2,15 @@
 use Rattle.std.specs.Prelude.{◌≡◌, ◌⊎◌, ℕ, ◌<◌, ◌≤◌, false, Some, Result, Ok, Err, List, [], ◌∷◌, length, take}
 use Rattle.kn_base.specs.declared.limits.TheConstants.{LONGEST_TEXT}
 use Rattle.kn_base.specs.Texts.{line_behind}
+use Rattle.kn_lines.specs.declared.built.FirstWord.{FirstWord}
+use Rattle.kn_lines.specs.declared.built.Built.{Built}
+use Rattle.kn_lines.specs.declared.built.TheConstants.{TODAY}
+use Rattle.kn_lines.specs.Built.{first_word_of}
+use Rattle.kn_lines.specs.Lines.{Numbered, unread, has_odd_byte}
 use Rattle.kn_script.specs.declared.faults.Fault.{Fault}
 use Rattle.kn_script.specs.declared.faults.Fault.TheVariants.{Bad, Memory}
 use Rattle.kn_script.specs.declared.faults.Why.{Why}
 use Rattle.kn_script.specs.declared.faults.Why.TheVariants.{Count, Long}
-use Rattle.kn_script.specs.declared.built.FirstWord.{FirstWord}
-use Rattle.kn_script.specs.declared.built.Built.{Built}
-use Rattle.kn_script.specs.declared.built.TheConstants.{TODAY}
-use Rattle.kn_script.specs.Built.{first_word_of}
-use Rattle.kn_script.specs.Lines.{Numbered, unread, has_odd_byte}
 use Rattle.kn_script.specs.Scripts.{Scripted, Progress}
 use Rattle.kn_script.specs.Progress.{start, behind, script_of}
 use Rattle.kn_script.specs.Reasons.{MeetsNone, IsFirst}

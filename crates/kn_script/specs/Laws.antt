@@ -1,9 +1,9 @@
 -- The laws of the grammar, whatever is built.
 use Rattle.std.specs.Prelude.{◌≡◌, ◌⊎◌, ℕ, List}
 use Rattle.kn_graph.specs.Ground.{IsGoodGround}
+use Rattle.kn_lines.specs.declared.built.Built.{Built}
+use Rattle.kn_lines.specs.Lines.{Numbered}
 use Rattle.kn_script.specs.declared.faults.Why.{Why}
-use Rattle.kn_script.specs.declared.built.Built.{Built}
-use Rattle.kn_script.specs.Lines.{Numbered}
 use Rattle.kn_script.specs.Scripts.{Scripted, Progress, ground_of}
 use Rattle.kn_script.specs.Reasons.{Meets, IsFirst}
 use Rattle.kn_script.specs.Grammar.{Takes, IsText, IsBad}

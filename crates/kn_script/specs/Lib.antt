@@ -1,9 +1,4 @@
-pub mod Numbers
-pub mod Lines
-pub mod Built
-pub mod Orders
 pub mod Scripts
-pub mod Forms
 pub mod Progress
 pub mod Reasons
 pub mod Grammar

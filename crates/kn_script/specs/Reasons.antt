@@ -1,35 +1,32 @@
 -- The table of reasons: why a line is bad behind what the lines so far have given.
-use Rattle.std.specs.Prelude.{◌≡◌, ◌⊎◌, ℕ, ◌+◌, ◌*◌, ◌<◌, nat_lt, nat_le, Bool, true, false, not, ◌&&◌, ◌||◌, Option, Some, None, List, [], ◌∷◌}
-use Rattle.std.specs.Prelude.{length, slice_get, slice_index, slice_index_or, bytes_eq, codes, if◌then◌else◌}
-use Rattle.kn_base.specs.declared.limits.TheConstants.{MOST_LAYOUTS, MOST_FIELDS, MOST_FRAMES, MOST_HEAP_WORDS, MOST_CALLS, MOST_CLEANERS}
-use Rattle.kn_base.specs.declared.limits.TheConstants.{MOST_ORDER_WORDS}
+use Rattle.std.specs.Prelude.{◌≡◌, ◌⊎◌, ℕ, ◌+◌, ◌<◌, nat_lt, nat_le, Bool, true, false, not, ◌&&◌, ◌||◌, Option, Some, None, List, [], ◌∷◌}
+use Rattle.std.specs.Prelude.{length, slice_get, bytes_eq, codes, if◌then◌else◌}
+use Rattle.kn_base.specs.declared.limits.TheConstants.{MOST_LAYOUTS, MOST_CALLS, MOST_CLEANERS, MOST_ORDER_WORDS}
 use Rattle.kn_layout.specs.declared.layouts.Layout.{Layout}
 use Rattle.kn_layout.specs.declared.layouts.Layout.TheVariants.{Fields, Array}
 use Rattle.kn_graph.specs.declared.arguments.Argument.{Argument}
 use Rattle.kn_graph.specs.declared.arguments.Argument.TheVariants as argument
+use Rattle.kn_lines.specs.declared.orders.Actor.{Actor}
+use Rattle.kn_lines.specs.declared.orders.Actor.TheVariants as who
+use Rattle.kn_lines.specs.declared.orders.OrderWord.{OrderWord}
+use Rattle.kn_lines.specs.declared.orders.OrderWord.TheVariants.{Run, Uninstall}
+use Rattle.kn_lines.specs.declared.built.HeaderWord.{HeaderWord}
+use Rattle.kn_lines.specs.declared.built.HeaderWord.TheVariants as header
+use Rattle.kn_lines.specs.declared.built.FirstWord.{FirstWord}
+use Rattle.kn_lines.specs.declared.built.FirstWord.TheVariants as first
+use Rattle.kn_lines.specs.declared.forms.Wanted.{Wanted}
+use Rattle.kn_lines.specs.declared.forms.Wanted.TheVariants as wanted
+use Rattle.kn_lines.specs.declared.forms.Form.{Form}
+use Rattle.kn_lines.specs.Lines.{Numbered, has_odd_byte}
+use Rattle.kn_lines.specs.Numbers.{number_of}
+use Rattle.kn_lines.specs.Built.{first_word_of}
+use Rattle.kn_lines.specs.Orders.{order_of}
+use Rattle.kn_lines.specs.Forms.{form_of, wanted_at}
+use Rattle.kn_lines.specs.Values.{kind_of, values_of}
+use Rattle.kn_lines.specs.Ranges.{is_outside, is_until_outside, is_large_heap, is_long_layout}
 use Rattle.kn_script.specs.declared.faults.Why.{Why}
 use Rattle.kn_script.specs.declared.faults.Why.TheVariants.{Word, Number, Range, Count, Order, Late, Long}
-use Rattle.kn_script.specs.declared.orders.TheConstants.{MOST_TIMES}
-use Rattle.kn_script.specs.declared.orders.Actor.{Actor}
-use Rattle.kn_script.specs.declared.orders.Actor.TheVariants as who
-use Rattle.kn_script.specs.declared.orders.Until.{Until}
-use Rattle.kn_script.specs.declared.orders.Until.TheVariants as until
-use Rattle.kn_script.specs.declared.orders.OrderWord.{OrderWord}
-use Rattle.kn_script.specs.declared.orders.OrderWord.TheVariants.{Run, Uninstall}
-use Rattle.kn_script.specs.declared.built.HeaderWord.{HeaderWord}
-use Rattle.kn_script.specs.declared.built.HeaderWord.TheVariants as header
-use Rattle.kn_script.specs.declared.built.FirstWord.{FirstWord}
-use Rattle.kn_script.specs.declared.built.FirstWord.TheVariants as first
-use Rattle.kn_script.specs.declared.forms.Wanted.{Wanted}
-use Rattle.kn_script.specs.declared.forms.Wanted.TheVariants as wanted
-use Rattle.kn_script.specs.declared.forms.Form.{Form}
-use Rattle.kn_script.specs.Lines.{Numbered, has_odd_byte}
-use Rattle.kn_script.specs.Numbers.{number_of}
-use Rattle.kn_script.specs.Built.{first_word_of}
-use Rattle.kn_script.specs.Orders.{order_of}
-use Rattle.kn_script.specs.Forms.{form_of, wanted_at}
 use Rattle.kn_script.specs.Scripts.{Progress}
-use Rattle.kn_script.specs.Progress.{kind_of, values_of}
 
 -- the row of a reason in the table
 abbrev pub row : Why → ℕ
@@ -79,9 +76,6 @@ is_no_fields p layout = if_fields p (slice_get p.layouts layout)
 abbrev pub is_no_array : Progress → ℕ → Bool
 is_no_array p layout = if_array p (slice_get p.layouts layout)
 
-abbrev pub is_outside : ℕ → ℕ → ℕ → Bool
-is_outside least greatest n = nat_lt n least || nat_lt greatest n
-
 -- a number that is not in the range of an argument
 abbrev pub is_misfit : Progress → Argument → ℕ → Bool
 is_misfit p (argument.Number greatest) n = nat_lt greatest n
@@ -96,11 +90,6 @@ is_misfit p argument.Back n = is_no_name p p.names.back n
 abbrev pub is_actor_outside : Progress → Actor → Bool
 is_actor_outside p (who.Thread thread) = is_no_thread p thread
 is_actor_outside p _ = false
-
-abbrev pub is_until_outside : Until → Bool
-is_until_outside (until.Turns n) = is_outside 1 MOST_TIMES n
-is_until_outside (until.Calls n) = is_outside 1 MOST_TIMES n
-is_until_outside (until.Code p) = false
 
 abbrev pub is_order_outside : Progress → OrderWord → Bool
 is_order_outside p (Run actor u) = is_actor_outside p actor || is_until_outside u
@@ -149,17 +138,6 @@ word_reasons p form place (word ∷ words) = and_then (reason_at p (wanted_at fo
 abbrev pub further_reasons : Progress → Wanted → List (List ℕ) → List Why
 further_reasons p want [] = []
 further_reasons p want (word ∷ words) = and_then (reason_at p want word) (further_reasons p want words)
-
--- more frames or words than a heap may have, tested as soon as all their numbers are there
-abbrev pub is_large_heap : List ℕ → ℕ → Bool
-is_large_heap ns count =
-    (nat_le 5 count && nat_lt MOST_FRAMES (slice_index ns 0 + slice_index ns 2 + slice_index ns 4))
-    || (nat_le 6 count
-    && nat_lt MOST_HEAP_WORDS (slice_index ns 0 * slice_index ns 1 + slice_index ns 2 * slice_index ns 3 + slice_index ns 4 * slice_index ns 5))
-
--- a layout line of fields with more words than a layout may have
-abbrev pub is_long_layout : List (List ℕ) → Bool
-is_long_layout words = not (bytes_eq (slice_index_or words 0 []) (codes "array")) && nat_lt (MOST_FIELDS + 1) (length words)
 
 -- more than there is room for: a heap, kinds or layouts, or order words
 abbrev pub is_header_too_much : Progress → HeaderWord → List (List ℕ) → Bool

@@ -5,10 +5,10 @@ use Rattle.kn_layout.specs.declared.layouts.Layout.{Layout}
 use Rattle.kn_graph.specs.declared.calls.Call.{Call}
 use Rattle.kn_graph.specs.Ground.{Ground}
 use Rattle.kn_graph.specs.Counts.{births_among}
-use Rattle.kn_script.specs.declared.built.Built.{Built}
-use Rattle.kn_script.specs.declared.header_lines.FrameSizes.{FrameSizes}
-use Rattle.kn_script.specs.declared.header_lines.NameCounts.{NameCounts}
-use Rattle.kn_script.specs.declared.orders.OrderWord.{OrderWord}
+use Rattle.kn_lines.specs.declared.built.Built.{Built}
+use Rattle.kn_lines.specs.declared.header_lines.FrameSizes.{FrameSizes}
+use Rattle.kn_lines.specs.declared.header_lines.NameCounts.{NameCounts}
+use Rattle.kn_lines.specs.declared.orders.OrderWord.{OrderWord}
 
 -- a script without where it lies in memory
 pub record Scripted : Type 0 where

@@ -1,6 +1,5 @@
-ghost use Rattle.kn_script.specs.declared.built.Built.{Built};
-ghost use Rattle.kn_script.specs.Laws.{EachLineIsTakenOrBad, NoLineIsBoth, EachTextIsOneOrBad, NoTextIsBad, TextsAreOfOneScript, TextsAreGood};
-ghost use Rattle.kn_script.specs.Laws.{GroundsAreGood};
+ghost use Rattle.kn_lines.specs.declared.built.Built.{Built};
+ghost use Rattle.kn_script.specs.Laws.{EachLineIsTakenOrBad, NoLineIsBoth, EachTextIsOneOrBad, NoTextIsBad, TextsAreOfOneScript, TextsAreGood, GroundsAreGood};
 
 /// The laws of the grammar, whatever is built: each line that is not passed over is taken or has one
 /// first reason, and never both; bytes are the text of one script, which is good, or have one first

@@ -1,17 +1,16 @@
 ghost use Rattle.std.specs.Prelude.{◌≡◌, ◌≤◌, take, length, IfOk, IsErrOf};
-ghost use Rattle.kn_script.specs.Built.{AreBuilt};
+ghost use Rattle.kn_lines.specs.Built.{AreBuilt};
 ghost use Rattle.kn_script.specs.Scripts.{Scripted};
 ghost use Rattle.kn_script.specs.Grammar.{Takes, IsText, IsTextToday, IsBad, IsBadToday, IfBad};
 ghost use Rattle.kn_script.specs.Good.{IsGoodProgress, IsGoodScript};
 ghost use Rattle.kn_script.specs.Reasons.{IsFirst};
 
-use crate::built::{Built, TODAY};
 use crate::faults::{Fault, Why};
-use crate::lines::{Line, Lines};
 use crate::progress::Progress;
 use crate::reasons::judge;
 use crate::scripts::Script;
 use kn_base::{LONGEST_TEXT, line_after};
+use kn_lines::{Built, Line, Lines, TODAY};
 use std::alloc::Global;
 
 /// The script whose text the bytes are, in the words that are built today (`IsTextToday` in

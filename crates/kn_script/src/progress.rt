@@ -1,26 +1,21 @@
 ghost use Rattle.std.specs.Prelude.{◌≡◌, ◌<◌, ◌≤◌, [], length, replicate, IfOk};
-ghost use Rattle.kn_script.specs.declared.orders.OrderWord.{OrderWord};
-ghost use Rattle.kn_script.specs.Progress.{values_of, start, behind, behind_header, behind_call, call_from, script_of};
+ghost use Rattle.kn_lines.specs.Values.{values_of};
+ghost use Rattle.kn_script.specs.Progress.{start, behind, behind_header, behind_call, script_of};
 ghost use Rattle.kn_script.specs.Reasons.{is_closed, is_no_thread, is_no_fields, is_no_array, is_no_name, is_misfit, is_actor_outside};
-ghost use Rattle.kn_script.specs.Reasons.{is_until_outside, is_order_outside, thread_reason, is_too_much, is_header_too_much, is_early, is_late};
-ghost use Rattle.kn_script.specs.Reasons.{reasons_of};
-ghost use Rattle.kn_script.specs.Readings.{capped, IsSmallCall};
+ghost use Rattle.kn_script.specs.Reasons.{is_order_outside, thread_reason, is_too_much, is_header_too_much, is_early, is_late, reasons_of};
 ghost use Rattle.kn_script.specs.Good.{IsGoodProgress};
 
-use crate::built::{Built, FirstWord, HeaderWord};
-use crate::call_lines::make_call;
 use crate::faults::Why;
-use crate::forms::Form;
-use crate::header_lines::{FrameSizes, NameCounts, is_large_heap, is_outside};
-use crate::layout_lines::{is_long_layout, read_layout};
-use crate::lines::{Line, Words};
-use crate::orders::{Actor, MOST_TIMES, OrderWord, Until, push_orders};
 use crate::reasons::{Accepted, when};
 use crate::scripts::{Calls, Script};
 use crate::size_counts::make_sizes;
 use kn_base::{MOST_CALLS, MOST_CLEANERS, MOST_LAYOUTS, MOST_ORDER_WORDS};
 use kn_graph::{Argument, Call};
 use kn_layout::Layout;
+use kn_lines::{
+    Actor, Built, FirstWord, Form, FrameSizes, HeaderWord, Line, NameCounts, OrderWord, Words,
+    is_large_heap, is_long_layout, is_until_outside, make_call, push_orders, read_layout,
+};
 use std::alloc::{AllocError, Global};
 use std::marker::Model;
 
@@ -320,20 +315,6 @@ impl Progress {
         self.threads[thread].push(call)?;
         self.calls += 1;
         Ok(())
-    }
-}
-
-/// Whether a number of turns or calls is out of its range.
-fn is_until_outside(until: Until) -> bool
-    ensures { result ≡ is_until_outside until }
-{
-    match until {
-        Until::Turns(times) | Until::Calls(times) => is_outside(
-            1,
-            u64::from(MOST_TIMES),
-            u64::from(times),
-        ),
-        Until::Code(_) => false,
     }
 }
 

@@ -1,23 +1,18 @@
-ghost use Rattle.std.specs.Prelude.{◌≡◌, ℕ, ◌^◌, ◌<◌, Some, None, List, [], length, slice_set, bytes_eq, ◌||◌, codes, MatchResult};
-ghost use Rattle.kn_script.specs.Numbers.{number_of, value_of};
-ghost use Rattle.kn_script.specs.Built.{first_word_of};
-ghost use Rattle.kn_script.specs.Forms.{form_of, wanted_at};
-ghost use Rattle.kn_script.specs.Progress.{kind_of, values_of};
-ghost use Rattle.kn_script.specs.Reasons.{is_word, when, earlier, first_of, of_word, reason_at, number_reason, word_reasons, reasons_of, reasons};
-ghost use Rattle.kn_script.specs.Reasons.{IsFirst};
+ghost use Rattle.std.specs.Prelude.{◌≡◌, ◌^◌, ◌<◌, Some, None, [], length, slice_set, bytes_eq, ◌||◌, codes, MatchResult};
+ghost use Rattle.kn_lines.specs.Numbers.{number_of, value_of};
+ghost use Rattle.kn_lines.specs.Built.{first_word_of};
+ghost use Rattle.kn_lines.specs.Forms.{form_of};
+ghost use Rattle.kn_lines.specs.Values.{kind_of, values_of};
+ghost use Rattle.kn_script.specs.Reasons.{is_word, when, earlier, first_of, of_word, reason_at, number_reason, reasons_of, reasons, IsFirst};
 ghost use Rattle.kn_script.specs.Readings.{IsReading, IsBegun, IsFurther};
 ghost use Rattle.kn_script.specs.Good.{IsGoodProgress};
 
-use crate::built::FirstWord;
 use crate::faults::Why;
-use crate::forms::{Form, Wanted, make_form};
-use crate::header_lines::is_outside;
-use crate::layout_lines::read_kind;
-use crate::lines::{Line, Words};
-use crate::numbers::read_number;
-use crate::orders::read_order;
 use crate::progress::Progress;
-use crate::words::read_first_word;
+use kn_lines::{
+    FirstWord, Form, Line, Wanted, Words, is_outside, make_form, read_first_word, read_kind,
+    read_number, read_order,
+};
 
 /// What is read of a line that meets no reason: its first word, and the numbers that the words at
 /// the first places spell, 0 where there is none.
@@ -124,6 +119,7 @@ fn read_first(progress: &Progress, form: &Form, words: &mut Words) -> Reading
 {
     let mut found = None;
     let mut values = [0; 6];
+    let places = form.first_places();
     for place in 0..6 {
         let Some(word) = words.next_word() else {
             return Reading {
@@ -132,7 +128,10 @@ fn read_first(progress: &Progress, form: &Form, words: &mut Words) -> Reading
                 count: place,
             };
         };
-        found = earlier(found, look_at(progress, form, place, word, &mut values));
+        found = earlier(
+            found,
+            look_at(progress, places[place], place, word, &mut values),
+        );
     }
     Reading {
         found,
@@ -141,23 +140,23 @@ fn read_first(progress: &Progress, form: &Form, words: &mut Words) -> Reading
     }
 }
 
-/// The first reason that a word meets at its place. What the word spells is kept among the values, 0
-/// where it is no number.
+/// The first reason that a word meets at what is wanted at its place. What the word spells is kept
+/// among the values, 0 where it is no number.
 fn look_at(
     progress: &Progress,
-    form: &Form,
+    want: Wanted,
     place: usize,
     word: &[u8],
     values: &mut [u64; 6],
 ) -> Option<Why>
     requires good { IsGoodProgress progress.now }
     requires place { place < 6 }
-    ensures reason { result ≡ reason_at progress.now (wanted_at form.now place) word.now }
+    ensures reason { result ≡ reason_at progress.now want word.now }
     ensures values { values.new ≡ slice_set values.old place (value_of word.now) }
 {
     let number = read_number(word);
     values[place] = number.unwrap_or(0);
-    reason_at(progress, form.place(place), word, number)
+    reason_at(progress, want, word, number)
 }
 
 /// The first reason that words meet, each at what is wanted there. Behind the reason `Word` nothing

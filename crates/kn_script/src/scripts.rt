@@ -1,7 +1,7 @@
-use crate::orders::OrderWord;
 use kn_base::Sizes;
 use kn_graph::Call;
 use kn_layout::Layout;
+use kn_lines::OrderWord;
 use std::marker::Model;
 
 /// The calls of one thread, in order. Contracts see the list of them.

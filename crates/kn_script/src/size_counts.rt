@@ -3,10 +3,10 @@ ghost use Rattle.kn_graph.specs.Counts.{births_among};
 ghost use Rattle.kn_script.specs.Scripts.{counts_of};
 ghost use Rattle.kn_script.specs.Progress.{sizes_of};
 
-use crate::header_lines::{FrameSizes, NameCounts};
 use crate::scripts::Calls;
 use kn_base::{MOST_CALLS, MOST_THREADS, Sizes};
 use kn_graph::Call;
+use kn_lines::{FrameSizes, NameCounts};
 
 /// The sizes of these frames and names, which count the calls and births of these threads.
 pub fn make_sizes(frames: FrameSizes, names: NameCounts, threads: &[Calls]) -> Sizes

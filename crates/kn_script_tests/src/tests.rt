@@ -1,5 +1,6 @@
 use kn_graph::Call;
-use kn_script::{Actor, Built, Fault, OrderWord, TODAY, Until, WHOLE, parse, read_script};
+use kn_lines::{Actor, Built, OrderWord, TODAY, Until, WHOLE};
+use kn_script::{Fault, parse, read_script};
 use std::alloc::{AllocError, Global};
 use std::test::Fail;
 

@@ -2,8 +2,9 @@ use Rattle.std.proofs.Common.{◌≡◌, cond, length, subst, refl, sym, arith}
 use Rattle.std.specs.Prelude.{List, Some, None}
 use Rattle.std.specs.List.{AllByRecursion}
 use Rattle.kn_report.specs.Reports.{report_text}
-use Rattle.kn_script.specs.declared.orders.OrderWord.{OrderWord}
-use Rattle.kn_script.specs.Good.{IsGoodScript, IsOrderWord}
+use Rattle.kn_lines.specs.declared.orders.OrderWord.{OrderWord}
+use Rattle.kn_lines.specs.Ranges.{IsOrderWord}
+use Rattle.kn_script.specs.Good.{IsGoodScript}
 use Rattle.kn_commands.proofs.RunEnds.{script_with, passed_may, entries_few, run_is, reported_is, made_run, made_reported}
 use Rattle.kn_commands.proofs.runs.run.Goals as goal
 

@@ -1,7 +1,7 @@
 use Rattle.std.proofs.Common.{sym, subst}
 use Rattle.std.specs.Prelude.{string_bytes}
 use Rattle.std.specs.Option.{option_map}
-use Rattle.kn_script.specs.declared.built.TheConstants.{TODAY}
+use Rattle.kn_lines.specs.declared.built.TheConstants.{TODAY}
 use Rattle.kn_commands.specs.declared.status.Status.{Status}
 use Rattle.kn_commands.specs.Ends.{IsUnread, Refuses}
 use Rattle.kn_commands.proofs.EndLemmas.{refused_end, ran_end}

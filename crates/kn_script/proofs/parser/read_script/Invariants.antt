@@ -1,5 +1,5 @@
 use Rattle.std.proofs.Common.{◌≡◌, length}
-use Rattle.kn_script.specs.Lines.{unread}
+use Rattle.kn_lines.specs.Lines.{unread}
 use Rattle.kn_script.specs.Progress.{start}
 use Rattle.kn_script.specs.Grammar.{Behind}
 use Rattle.kn_script.specs.Good.{IsGoodProgress}

@@ -1,5 +1,5 @@
 use Rattle.std.proofs.Common.{◌≡◌, true, sym, ◌∙◌, ap}
-use Rattle.kn_script.specs.Forms.{form_of}
+use Rattle.kn_lines.specs.Forms.{form_of}
 use Rattle.kn_script.specs.Reasons.{is_word, first_of, word_reasons}
 use Rattle.kn_script.proofs.ReasonLemmas.{first_of-word}
 use Rattle.kn_script.proofs.reasons.first_reason.Goals as goal

@@ -1,5 +1,5 @@
 use Rattle.std.proofs.Common.{◌≡◌, Some, sym, subst}
-use Rattle.kn_script.specs.Built.{first_word_of}
+use Rattle.kn_lines.specs.Built.{first_word_of}
 use Rattle.kn_script.specs.Readings.{IsReading}
 use Rattle.kn_script.proofs.GrammarLemmas.{judged-bad, judged-good}
 use Rattle.kn_script.proofs.reasons.judge.Goals as goal

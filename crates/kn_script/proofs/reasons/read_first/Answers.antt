@@ -1,6 +1,7 @@
-use Rattle.std.proofs.Common.{◌≡◌, ◌+◌, refl, arith, ap, sym, ◌∙◌, length, length-set, rules}
-use Rattle.kn_script.specs.Numbers.{value_of}
-use Rattle.kn_script.specs.Reasons.{and_then, earlier, first_of, word_reasons, further_reasons}
+use Rattle.std.proofs.Common.{◌+◌, refl, arith, ap, sym, ◌∙◌, length, length-set}
+use Rattle.kn_lines.specs.declared.forms.Wanted.TheVariants.{Untested}
+use Rattle.kn_lines.specs.Numbers.{value_of}
+use Rattle.kn_script.specs.Reasons.{reason_at, and_then, earlier, first_of, word_reasons, further_reasons}
 use Rattle.kn_script.specs.Readings.{written}
 use Rattle.kn_script.proofs.ReasonLemmas.{first_of-more, word_reasons-further}
 use Rattle.kn_script.proofs.ValueLemmas.{written-more, written-all, written-past}
@@ -15,7 +16,9 @@ loop-place-preserved c =
     let rest = c.next_word.new.self in
     let is = c.in-Some.ensures in
     let looked = c.look_at.ensures in
-    let here = ap (λ ws. word_reasons p form l.place ws) is ∙ ap (λ r. and_then r (word_reasons p form (l.place + 1) rest)) (sym looked.reason) in
+    let want = c.first_places-places.ensures.each l.place Untested c.loop-place-test.true in
+    let reason = looked.reason ∙ ap (λ w. reason_at p w word) want in
+    let here = ap (λ ws. word_reasons p form l.place ws) is ∙ ap (λ r. and_then r (word_reasons p form (l.place + 1) rest)) (sym reason) in
     record {
       first = first_of-more _ _ l.found c.look_at.result _ _ here c.earlier-found.ensures l.invariant.first;
       values = written-more l.values _ l.place (value_of word) l.words rest word _ is refl looked.values l.invariant.values;
@@ -42,8 +45,8 @@ returns c =
     let l = c.loop-place in
     let p = c.args.progress.now in
     let form = c.args.form.now in
-    let six : length form.places ≡ 6 = search rules in
-    let further = word_reasons-further p form l.place l.words (omega (arith, six)) in
+    let past = c.loop-place-test.false in
+    let further = word_reasons-further p form l.place l.words (λ k behind. c.first_places-places.ensures.further k (omega (arith, past, behind))) in
     record {
       found = ap (λ rs. earlier l.found (first_of rs)) (sym further) ∙ l.invariant.first;
       values = sym (written-past l.values l.place l.words (omega (arith, l.invariant.six))) ∙ l.invariant.values ∙ written-all c.args.words.now;

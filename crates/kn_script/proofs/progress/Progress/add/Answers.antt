@@ -1,4 +1,4 @@
-use Rattle.kn_script.specs.declared.built.FirstWord.TheVariants.{Call}
+use Rattle.kn_lines.specs.declared.built.FirstWord.TheVariants.{Call}
 use Rattle.kn_script.proofs.ReasonLemmas.{MeetsNone-from}
 use Rattle.kn_script.proofs.GoodLemmas.{call-small}
 use Rattle.kn_script.proofs.progress.Progress.add.Goals as goal

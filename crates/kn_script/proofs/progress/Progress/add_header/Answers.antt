@@ -1,14 +1,15 @@
 use Rattle.std.proofs.Common.{◌≡◌, ◌<◌, ◌≤◌, [], List, ℕ, length, get_or, ap, arith}
-use Rattle.kn_script.specs.declared.built.HeaderWord.{HeaderWord}
-use Rattle.kn_script.specs.declared.built.HeaderWord.TheVariants.{Heap, Names, Thread, Order}
-use Rattle.kn_script.specs.declared.built.FirstWord.TheVariants.{Header}
-use Rattle.kn_script.specs.Numbers.{value_at}
+use Rattle.kn_lines.specs.declared.built.HeaderWord.{HeaderWord}
+use Rattle.kn_lines.specs.declared.built.HeaderWord.TheVariants.{Heap, Names, Thread, Order}
+use Rattle.kn_lines.specs.declared.built.FirstWord.TheVariants.{Header}
+use Rattle.kn_lines.specs.Numbers.{value_at}
+use Rattle.kn_lines.specs.Values.{values_of}
+use Rattle.kn_lines.proofs.OrderLemmas.{orders-same}
 use Rattle.kn_script.specs.Scripts.{Progress}
-use Rattle.kn_script.specs.Progress.{values_of}
 use Rattle.kn_script.specs.Reasons.{reasons_of, MeetsNone}
 use Rattle.kn_script.proofs.ReasonLemmas.{MeetsNone-from}
 use Rattle.kn_script.proofs.FitLemmas.{MeetsNone-count, MeetsNone-stage, MeetsNone-thread, MeetsNone-heap, MeetsNone-names}
-use Rattle.kn_script.proofs.OrderLemmas.{orders-fit, orders-same}
+use Rattle.kn_script.proofs.OrderFits.{orders-fit}
 use Rattle.kn_script.proofs.progress.Progress.add_header.Goals as goal
 
 meets : (p : Progress) (word known : HeaderWord) (words : List (List ℕ)) → word ≡ known → reasons_of p (Header word) words ≡ [] →

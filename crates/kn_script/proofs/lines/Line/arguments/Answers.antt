@@ -1,6 +1,0 @@
-use Rattle.std.proofs.Common.{arith}
-use Rattle.kn_script.proofs.PieceLemmas.{line_words-few}
-use Rattle.kn_script.proofs.lines.Line.arguments.Goals as goal
-
-pub returns-clause-few : goal.returns-clause-few
-returns-clause-few c = omega (arith, line_words-few c.self.inside.rest.now)
