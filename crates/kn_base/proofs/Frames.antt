@@ -1,6 +1,6 @@
 -- Frames lie one after another.
-use Rattle.std.proofs.Common.{◌≡◌, ℕ, zero, suc, ◌+◌, ◌-◌, ◌*◌, ◌<◌, ◌≤◌, List, [], ◌∷◌, ◌++◌, append-nil, Option, Some, None, sym, ap, ◌∙◌, subst, inl}
-use Rattle.std.proofs.Common.{inr, refl, arith}
+use Rattle.std.proofs.Common.{◌≡◌, ℕ, zero, suc, ◌+◌, ◌-◌, ◌*◌, ◌<◌, ◌≤◌, List, [], ◌∷◌, ◌++◌, append-nil, Option, Some}
+use Rattle.std.proofs.Common.{None, sym, ap, ◌∙◌, subst, inl, inr, refl, arith}
 use Rattle.std.specs.Prelude.{IfSome, IsSome, slice_get}
 use Rattle.std.specs.List.{repeat}
 use Rattle.std.proofs.Math.Nat.{mul-le-mul_right}
@@ -22,11 +22,13 @@ weaker P Q (Some span) f h = f span h
 
 -- spans of one length, and others behind them
 module _ (len : ℕ) where
-  starts_at : (start next : ℕ) → start ≡ next → ◌≡◌ {A = Option Span} (Some (record { start = start; len = len })) (Some (record { start = next; len = len }))
+  starts_at : (start next : ℕ) → start ≡ next →
+      ◌≡◌ {A = Option Span} (Some (record { start = start; len = len })) (Some (record { start = next; len = len }))
   starts_at start next e = ap (λ s. let span : Span = record { start = s; len = len } in Some span) e
 
   -- one of those
-  laid-here : (start n : ℕ) (behind : List ℕ) (p : ℕ) → p < n → slice_get (laid_from start (repeat n (len ∷ []) ++ behind)) p ≡ Some (nth_span start len p)
+  laid-here : (start n : ℕ) (behind : List ℕ) (p : ℕ) → p < n →
+      slice_get (laid_from start (repeat n (len ∷ []) ++ behind)) p ≡ Some (nth_span start len p)
   laid-here start zero behind p h = absurd (omega arith)
   laid-here start (suc n) behind zero h = starts_at start (start + 0 * len) (omega arith)
   laid-here start (suc n) behind (suc p) h = laid-here (start + len) n behind p (omega arith)

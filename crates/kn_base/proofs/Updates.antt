@@ -1,6 +1,6 @@
 -- Functions changed at one place.
-use Rattle.std.proofs.Common.{◌≡◌, ℕ, zero, suc, ◌<◌, ◌≢◌, inl, inr, true, false, cond, eqb, List, [], ◌∷◌, length, set, Some, slice_get, refl, sym, ap}
-use Rattle.std.proofs.Common.{◌∙◌, subst, arith, eq-eqb, ne_eqb}
+use Rattle.std.proofs.Common.{◌≡◌, ℕ, zero, suc, ◌<◌, ◌≢◌, inl, inr, true, false, cond, eqb, List, [], ◌∷◌, length, set, Some}
+use Rattle.std.proofs.Common.{slice_get, refl, sym, ap, ◌∙◌, subst, arith, eq-eqb, ne_eqb}
 use Rattle.std.proofs.lemmas.Bool.Decides.{eqb_tells}
 use Rattle.kn_base.specs.Functions.{upd, Tells}
 
@@ -19,7 +19,8 @@ module _ {A : Type 0} where
   pub upd_same : (f : ℕ → A) (i : ℕ) (a : A) → a ≡ f i → upd f i a ≡ f
   upd_same f i a e = λ t j. upd_same_at f i a e j (eqb_tells i j) t
 
-  upd_case_at : (P : ℕ → A → Type 0) (f : ℕ → A) (i : ℕ) (a : A) → P i a → (j : ℕ) → (i ≢ j → P j (f j)) → Tells i j → P j (upd f i a j)
+  upd_case_at : (P : ℕ → A → Type 0) (f : ℕ → A) (i : ℕ) (a : A) → P i a → (j : ℕ) → (i ≢ j → P j (f j)) → Tells i j →
+      P j (upd f i a j)
   upd_case_at P f i a here j there (inl t) = subst (λ b. P j (cond b a (f j))) (sym t.0) (subst (λ k. P k a) t.1 here)
   upd_case_at P f i a here j there (inr t) = subst (λ b. P j (cond b a (f j))) (sym t.0) (there t.1)
 
@@ -59,7 +60,8 @@ get_set_else (y ∷ ys) zero x (suc j) h = refl
 get_set_else (y ∷ ys) (suc k) x zero h = refl
 get_set_else (y ∷ ys) (suc k) x (suc j) h = get_set_else ys k x j (λ e. h (ap suc e))
 
-get_set_at : {A : Type 0} (l : List A) (k : ℕ) (x : A) (j : ℕ) → k < length l → Tells k j → slice_get (set l k x) j ≡ cond (eqb k j) (Some x) (slice_get l j)
+get_set_at : {A : Type 0} (l : List A) (k : ℕ) (x : A) (j : ℕ) → k < length l → Tells k j →
+    slice_get (set l k x) j ≡ cond (eqb k j) (Some x) (slice_get l j)
 get_set_at {A} l k x j h (inl t) = ap (slice_get (set l k x)) (sym t.1) ∙ (get_set_here l k x h ∙ ap (λ b. cond b (Some x) (slice_get l j)) (sym t.0))
 get_set_at {A} l k x j h (inr t) = get_set_else l k x j t.1 ∙ ap (λ b. cond b (Some x) (slice_get l j)) (sym t.0)
 

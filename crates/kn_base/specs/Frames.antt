@@ -31,5 +31,6 @@ pub record FramesLie (z : Sizes) : Type 0 where
   pub none : (p : ℕ) → frame_count z ≤ p → span_of_frame z p ≡ None
   pub span : (p : ℕ) (frame : Span) → span_of_frame z p ≡ Some frame → IsSpan frame
   pub next : (p : ℕ) (frame behind : Span) → span_of_frame z p ≡ Some frame → span_of_frame z (p + 1) ≡ Some behind → behind.start ≡ end_of frame
-  pub apart : (p q : ℕ) (frame later : Span) → p < q → span_of_frame z p ≡ Some frame → span_of_frame z q ≡ Some later → end_of frame ≤ later.start
+  pub apart : (p q : ℕ) (frame later : Span) → p < q → span_of_frame z p ≡ Some frame → span_of_frame z q ≡ Some later →
+      end_of frame ≤ later.start
   pub within : (p : ℕ) (frame : Span) → span_of_frame z p ≡ Some frame → LiesInHeap z frame

@@ -1,5 +1,6 @@
 -- Sorted lists of free spans: the words that they have, what is taken out of them and what is put in.
-use Rattle.std.specs.Prelude.{ℕ, ◌+◌, ◌-◌, ◌^◌, ◌<◌, ◌≤◌, ◌≡◌, ◌⊎◌, List, [], ◌∷◌, ◌++◌, Option, filter, find, if◌then◌else◌, nat_le, nat_lt, min, max, sum_by}
+use Rattle.std.specs.Prelude.{ℕ, ◌+◌, ◌-◌, ◌^◌, ◌<◌, ◌≤◌, ◌≡◌, ◌⊎◌, List, [], ◌∷◌, ◌++◌, Option, filter, find}
+use Rattle.std.specs.Prelude.{if◌then◌else◌, nat_le, nat_lt, min, max, sum_by}
 use Rattle.std.specs.List.{flat_map}
 use Rattle.kn_base.specs.declared.numbers.Span.{Span}
 use Rattle.kn_base.specs.Spans.{end_of}

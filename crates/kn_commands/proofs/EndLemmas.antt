@@ -44,7 +44,8 @@ module _ (apart : NoTextIsBad TODAY) (one : TextsAreOfOneScript TODAY) (old new 
     no_text ends.Spent is sound = absurd is
     no_text ends.WriteFault is sound = absurd is
 
-    is_memory : (x : Status) (script : Scripted) (bytes : List ℕ) → IsText TODAY script bytes → old.left ≡ Some bytes → (SourceFailed old new → ⊥) →
+    is_memory : (x : Status) (script : Scripted) (bytes : List ℕ) → IsText TODAY script bytes → old.left ≡ Some bytes →
+        (SourceFailed old new → ⊥) →
         IsUnread x old.left new.left old.source_faults new.source_faults → x ≡ ends.Memory
     is_memory ends.ReadFault script bytes text told sound is = absurd (sound is)
     is_memory (ends.Script n why) script bytes text told sound is =

@@ -1,6 +1,6 @@
 -- What a run keeps goes on standing for its history, call after call.
-use Rattle.std.proofs.Common.{◌≡◌, ◌≢◌, ℕ, ◌+◌, ◌<◌, ◌≤◌, inl, inr, true, false, ◌&&◌, cond, eqb, Option, Some, None, List, [], ◌∷◌, ◌++◌}
-use Rattle.std.proofs.Common.{length, set, slice_index_or, refl, sym, ◌∙◌, ap, subst, arith, length-set, append-nil}
+use Rattle.std.proofs.Common.{◌≡◌, ◌≢◌, ℕ, ◌+◌, ◌<◌, ◌≤◌, inl, inr, true, false, ◌&&◌, cond, eqb, Option, Some, None, List, []}
+use Rattle.std.proofs.Common.{◌∷◌, ◌++◌, length, set, slice_index_or, refl, sym, ◌∙◌, ap, subst, arith, length-set, append-nil}
 use Rattle.std.proofs.lemmas.List.{get_or-set_same, get_or-set_other}
 use Rattle.std.proofs.lemmas.Grind.{flat_map-append}
 use Rattle.std.proofs.lemmas.Bool.Decides.{eqb_tells}
@@ -305,7 +305,8 @@ module _ (z : Ground) (good : IsGoodGround z) (kept : Kept) (s : StandsFor z kep
 
   pub answered_stands : (made : Call) (reply : Reply) (room : Option Span) (start epoch : ℕ) (seen : Reply) (before after : Replay) →
       IsAnswerable made → IsInRange z made →
-      before ≡ kept.graph → room ≡ room_of z kept.free made → start ≡ start_of room → seen ≡ seen_of room → epoch ≡ (graph_of before).paused →
+      before ≡ kept.graph → room ≡ room_of z kept.free made → start ≡ start_of room → seen ≡ seen_of room →
+      epoch ≡ (graph_of before).paused →
       after.ground ≡ before.ground → Answers before.ground thread made start seen (graph_of before) reply (graph_of after) →
       StandsFor z (with_entry (record kept { graph = after }) (call_entry thread epoch made reply start) room)
   answered_stands made reply room start epoch seen before after may fit same found at seen_is epoch_is ground answers =

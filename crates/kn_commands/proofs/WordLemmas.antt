@@ -14,7 +14,8 @@ only_if word (x ∷ xs) text e = cc
 
 pub only_word : (words : List (Bor (List ℕ))) (word : Bor (List ℕ)) (rest : List (Bor (List ℕ))) (text : List ℕ) (empty : Bool) →
     words ≡ word ∷ rest → true ≡ bytes_eq word.now text → empty ≡ eqb (length rest) 0 →
-    (IsTrue empty → map (λ (w : Bor (List ℕ)). w.now) words ≡ text ∷ []) × (map (λ (w : Bor (List ℕ)). w.now) words ≡ text ∷ [] → IsTrue empty)
+    (IsTrue empty → map (λ (w : Bor (List ℕ)). w.now) words ≡ text ∷ [])
+    × (map (λ (w : Bor (List ℕ)). w.now) words ≡ text ∷ [] → IsTrue empty)
 only_word words word rest text empty words_are same is_empty =
     let word_is : word.now ≡ text = (bytes_eq-Decides word.now text).0 (sym same) in (
       λ yes. rw words_are (let none : rest ≡ [] = nil_from_length rest (eqb-true (length rest) 0 (sym is_empty ∙ yes)) in rw (word_is, none) refl),

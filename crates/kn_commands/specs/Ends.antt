@@ -1,5 +1,6 @@
 -- How a call of the program may end.
-use Rattle.std.specs.Prelude.{◌≡◌, ◌≢◌, ℕ, ◌+◌, ◌<◌, ◌≤◌, ◌⊎◌, ◌↔◌, Option, Some, None, IsSome, IfSome, List, [], length, codes}
+use Rattle.std.specs.Prelude.{◌≡◌, ◌≢◌, ℕ, ◌+◌, ◌<◌, ◌≤◌, ◌⊎◌, ◌↔◌, Option, Some, None, IsSome, IfSome, List, []}
+use Rattle.std.specs.Prelude.{length, codes}
 use Rattle.kn_graph.specs.declared.entries.Entry.{Entry}
 use Rattle.kn_graph.specs.Logs.{LogsFit}
 use Rattle.kn_io.specs.Counts.{Rose, NeverFalls}
@@ -122,7 +123,8 @@ pub record IsTraceEnd (old new : Devices) (status : Status) (cells : Option RunR
   pub spent_exactly : (script : Scripted) (bytes : List ℕ) → IsText TODAY script bytes → script.turns < length (schedule_of script) →
       old.left ≡ Some bytes → (SourceFailed old new → ⊥) → (status ≡ ends.Spent) ⊎ (status ≡ ends.Memory)
   -- any other text is refused where the source does not fail and memory lasts
-  pub refused : (bytes : List ℕ) → old.left ≡ Some bytes → IsNoText bytes → (SourceFailed old new → ⊥) → IsScript status ⊎ (status ≡ ends.Memory)
+  pub refused : (bytes : List ℕ) → old.left ≡ Some bytes → IsNoText bytes → (SourceFailed old new → ⊥) →
+      IsScript status ⊎ (status ≡ ends.Memory)
 
 -- the words are none of the forms: the usage line was written
 pub record IsUsageEnd (old new : Devices) (status : Status) (cells : Option RunRecord) : Type 0 where

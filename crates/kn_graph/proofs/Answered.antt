@@ -1,6 +1,6 @@
 -- Every answered call changes nothing or one thing, and makes an object exactly where it is a birth.
-use Rattle.std.proofs.Common.{◌≡◌, ◌≢◌, ℕ, ◌+◌, ◌-◌, ◌<◌, ◌≤◌, inl, inr, Bool, true, false, ◌&&◌, cond, eqb, Option, Some, None, length}
-use Rattle.std.proofs.Common.{slice_get, refl, sym, subst, ap, ◌∙◌, arith, eq-eqb}
+use Rattle.std.proofs.Common.{◌≡◌, ◌≢◌, ℕ, ◌+◌, ◌-◌, ◌<◌, ◌≤◌, inl, inr, Bool, true, false, ◌&&◌, cond, eqb, Option, Some}
+use Rattle.std.proofs.Common.{None, length, slice_get, refl, sym, subst, ap, ◌∙◌, arith, eq-eqb}
 use Rattle.std.proofs.lemmas.List.{length-replicate}
 use Rattle.kn_layout.specs.declared.layouts.FieldKind.{FieldKind}
 use Rattle.kn_layout.specs.declared.layouts.FieldKind.TheVariants.{Ref as of_ref, Int as of_int}

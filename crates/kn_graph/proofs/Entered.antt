@@ -16,7 +16,8 @@ use Rattle.kn_graph.proofs.LegalGraphs.{next_sound}
 use Rattle.kn_graph.proofs.Successors.{change_epochs, leads_succeeds}
 
 module _ (z : Ground) where
-  event_entered : (by epoch : ℕ) (e : Event) (g g' : Graph) → IsSound z g → EventFollows z by epoch e g g' → ◌≡◌ {A = ℕ → ℕ} g'.entered g.entered
+  event_entered : (by epoch : ℕ) (e : Event) (g g' : Graph) → IsSound z g → EventFollows z by epoch e g g' →
+      ◌≡◌ {A = ℕ → ℕ} g'.entered g.entered
   event_entered by epoch (events.Call call reply address) g g' s f =
       (change_epochs z by g g' (answer_changes z by g s reply address g' call f.in_range f.answer)).2
   event_entered by epoch (events.Pause e) g g' s f = ap (λ (x : Graph). x.entered) f.1.after

@@ -20,7 +20,8 @@ use Rattle.kn_graph.proofs.Answered.{answer_changes}
 
 module _ (z : Ground) where
   -- locals, globals and names are others, and the epochs of callers
-  held : (g : Graph) → IsSound z g → {local : ℕ → ℕ → Option ℕ} {global stable weak back : ℕ → Option ℕ} {count : ℕ → ℕ} (entered : ℕ → ℕ) →
+  held : (g : Graph) → IsSound z g →
+      {local : ℕ → ℕ → Option ℕ} {global stable weak back : ℕ → Option ℕ} {count : ℕ → ℕ} (entered : ℕ → ℕ) →
       RootsAlive g.born (shapes g) local global stable back count → HoldInRange z.sizes local global stable weak back →
       NamesBorn g.born weak back count →
       IsSound z (record g { local = local; global = global; stable = stable; weak = weak; back = back; count = count; entered = entered })

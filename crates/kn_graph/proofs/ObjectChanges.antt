@@ -14,7 +14,8 @@ use Rattle.kn_graph.specs.Sound.{Alive, FieldsAlive, FlagsAgree, HasCell, IsSoun
 use Rattle.kn_graph.proofs.Writes.{alive_still, roots_still}
 
 module _ (z : Ground) where
-  pub fields_still : (born : ℕ) (shape : ℕ → Shape) (born' : ℕ) (shape' : ℕ → Shape) → ((x : Option ℕ) → Alive born shape x → Alive born' shape' x) →
+  pub fields_still : (born : ℕ) (shape : ℕ → Shape) (born' : ℕ) (shape' : ℕ → Shape) →
+      ((x : Option ℕ) → Alive born shape x → Alive born' shape' x) →
       (o : Shape) (points : ℕ → Option ℕ) → FieldsAlive z born shape o points → FieldsAlive z born' shape' o points
   fields_still born shape born' shape' still o points s = record { kinds = s.kinds; values = λ free f. still (points f) (s.values free f) }
 

@@ -1,5 +1,6 @@
 -- No two entries of a legal history finalize one object.
-use Rattle.std.proofs.Common.{◌≡◌, ℕ, ◌<◌, ◌⊎◌, inl, inr, List, [], ◌∷◌, ◌++◌, Option, Some, None, refl, sym, subst, ap, ◌∙◌, arith}
+use Rattle.std.proofs.Common.{◌≡◌, ℕ, ◌<◌, ◌⊎◌, inl, inr, List, [], ◌∷◌, ◌++◌, Option, Some, None, refl, sym, subst, ap, ◌∙◌}
+use Rattle.std.proofs.Common.{arith}
 use Rattle.kn_base.specs.Functions.{upd}
 use Rattle.kn_base.proofs.Updates.{upd_here}
 use Rattle.kn_graph.specs.declared.entries.Event.{Event}

@@ -8,7 +8,8 @@ use Rattle.kn_graph.specs.Sound.{Alive, IsSound}
 
 module _ (z : Ground) (g : Graph) (s : IsSound z g) (flag : ℕ → Bool) (condemns : Condemns g flag)
     (e : ℕ) (next : e ≡ g.paused + 1) (last_done : g.done ≡ g.paused) where
-  spared : (x : Option ℕ) → ((n : ℕ) → x ≡ Some n → IsReachable g n) → Alive g.born (shapes g) x → Alive g.born (shapes (with_condemned g flag)) x
+  spared : (x : Option ℕ) → ((n : ℕ) → x ≡ Some n → IsReachable g n) → Alive g.born (shapes g) x →
+      Alive g.born (shapes (with_condemned g flag)) x
   spared None f a = tt
   spared (Some n) f a = (a.0, (condemns.born n a.0).1 (f n refl, a.1))
 

@@ -1,5 +1,6 @@
 -- Once an epoch is done, and before a further pause, what is condemned is released or queued.
-use Rattle.std.proofs.Common.{◌≡◌, ℕ, ◌<◌, ◌⊎◌, ◌↔◌, inl, inr, Bool, true, false, List, [], ◌∷◌, Option, Some, None, refl, sym, subst, ◌∙◌, arith}
+use Rattle.std.proofs.Common.{◌≡◌, ℕ, ◌<◌, ◌⊎◌, ◌↔◌, inl, inr, Bool, true, false, List, [], ◌∷◌, Option, Some, None, refl, sym}
+use Rattle.std.proofs.Common.{subst, ◌∙◌, arith}
 use Rattle.std.specs.List.{AllByRecursion}
 use Rattle.kn_graph.specs.declared.entries.Event.{Event}
 use Rattle.kn_graph.specs.declared.entries.Event.TheVariants as events
@@ -26,13 +27,15 @@ module _ (z : Ground) (g : Graph) (s : IsSound z g) where
     condemned_gone : g.done ≡ g.paused → (g.object n).condemned ≡ true → (t : Option (ℕ × ℕ)) → (g.object n).tie ≡ t →
         ((g.object n).released ≡ true) ⊎ ((g.object n).queued ≡ true)
     condemned_gone d c None e = inl ((s.settled d n near).plain c e)
-    condemned_gone d c (Some t) e = inr ((s.settled d n near).tied c (λ f. let h : ◌≡◌ {A = Option (ℕ × ℕ)} None (Some t) = sym f ∙ e in absurd (cc)))
+    condemned_gone d c (Some t) e =
+        inr ((s.settled d n near).tied c (λ f. let h : ◌≡◌ {A = Option (ℕ × ℕ)} None (Some t) = sym f ∙ e in absurd (cc)))
 
     pub gone_exactly : g.done ≡ g.paused → (((g.object n).released ≡ true) ⊎ ((g.object n).queued ≡ true)) ↔ ((g.object n).condemned ≡ true)
     gone_exactly d = (gone_condemned, λ c. condemned_gone d c (g.object n).tie refl)
 
 module _ (z : Ground) where
-  event_done : (by epoch : ℕ) (e : Event) (g g' : Graph) → IsSound z g → is_pause e ≡ false → IsDone g → EventFollows z by epoch e g g' → IsDone g'
+  event_done : (by epoch : ℕ) (e : Event) (g g' : Graph) → IsSound z g → is_pause e ≡ false → IsDone g → EventFollows z by epoch e g g' →
+      IsDone g'
   event_done by epoch (events.Call call reply address) g g' s quiet d f =
       let same = change_epochs z by g g' (answer_changes z by g s reply address g' call f.in_range f.answer) in same.1 ∙ (d ∙ sym same.0)
   event_done by epoch (events.Pause e) g g' s quiet d f = absurd (cc)
@@ -44,7 +47,8 @@ module _ (z : Ground) where
   next_done : (entry : Entry) (g g' : Graph) → IsSound z g → is_pause entry.what ≡ false → IsDone g → Follows z entry g g' → IsDone g'
   next_done entry g g' s quiet d f = subst IsDone (sym f.after) (event_done entry.by.0 entry.epoch entry.what g f.graph s quiet d f.event)
 
-  still_done : (h : List Entry) (g g' : Graph) → IsSound z g → AllByRecursion (λ entry. is_pause entry.what ≡ false) h → IsDone g → Leads z g h g' →
+  still_done : (h : List Entry) (g g' : Graph) → IsSound z g → AllByRecursion (λ entry. is_pause entry.what ≡ false) h → IsDone g →
+      Leads z g h g' →
       IsDone g'
   still_done [] g g' s quiet d l = subst IsDone l d
   still_done (e ∷ h) g g' s quiet d l = still_done h l.0 g' (next_sound z e g l.0 s l.1) quiet.1 (next_done e g l.0 s quiet.0 d l.1) l.2

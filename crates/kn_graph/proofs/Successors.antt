@@ -30,7 +30,8 @@ endures o = record {
 }
 
 -- an object with other fields, which keeps the flags that are set, its tie and its finalization
-written_endures : (o : Object) {points : ℕ → Option ℕ} {number : ℕ → ℕ} {tie : Option (ℕ × ℕ)} {released queued : Bool} {finalized : Option ℕ} →
+written_endures : (o : Object) {points : ℕ → Option ℕ} {number : ℕ → ℕ} {tie : Option (ℕ × ℕ)}
+    {released queued : Bool} {finalized : Option ℕ} →
     (o.released ≡ true → released ≡ true) → (o.queued ≡ true → queued ≡ true) → ((t : ℕ × ℕ) → o.tie ≡ Some t → tie ≡ Some t) →
     ((pauses : ℕ) → o.finalized ≡ Some pauses → finalized ≡ Some pauses) →
     Endures o (record o { points = points; number = number; tie = tie; released = released; queued = queued; finalized = finalized })

@@ -1,5 +1,6 @@
 -- The laws of legal histories and of the graphs that they lead to.
-use Rattle.std.specs.Prelude.{◌≡◌, ◌≢◌, ℕ, ◌+◌, ◌<◌, ◌≤◌, ◌==◌, Bool, IsSome, ◌⊎◌, ◌↔◌, true, false, Some, List, [], ◌∷◌, ◌++◌, cond}
+use Rattle.std.specs.Prelude.{◌≡◌, ◌≢◌, ℕ, ◌+◌, ◌<◌, ◌≤◌, ◌==◌, Bool, IsSome, ◌⊎◌, ◌↔◌, true, false, Some, List, []}
+use Rattle.std.specs.Prelude.{◌∷◌, ◌++◌, cond}
 use Rattle.std.specs.List.{AllByRecursion}
 use Rattle.kn_base.specs.Spans.{AreApart}
 use Rattle.kn_graph.specs.declared.calls.Call.{Call}

@@ -1,5 +1,6 @@
 -- The words that lines may begin with, the parts of order words, and which of them are built.
-use Rattle.std.specs.Prelude.{ℕ, Bool, false, Option, Some, None, List, [], ◌∷◌, find, bytes_eq, slice_index_or, codes, if◌then◌else◌, ◌≡◌, true}
+use Rattle.std.specs.Prelude.{ℕ, Bool, false, Option, Some, None, List, [], ◌∷◌, find, bytes_eq, slice_index_or, codes, if◌then◌else◌, ◌≡◌}
+use Rattle.std.specs.Prelude.{true}
 use Rattle.std.specs.List.{AllByRecursion}
 use Rattle.kn_graph.specs.declared.calls.Call.{Call as Made}
 use Rattle.kn_graph.specs.Arguments.{word_of}

@@ -1,6 +1,6 @@
 -- The words of the order: who takes turns, and until when.
-use Rattle.std.specs.Prelude.{ℕ, ◌==◌, ◌||◌, Bool, Option, Some, None, option_map, option_and_then, List, [], ◌∷◌, find, drop, slice_index, bytes_eq}
-use Rattle.std.specs.Prelude.{codes, if◌then◌else◌}
+use Rattle.std.specs.Prelude.{ℕ, ◌==◌, ◌||◌, Bool, Option, Some, None, option_map, option_and_then, List, [], ◌∷◌, find, drop, slice_index}
+use Rattle.std.specs.Prelude.{bytes_eq, codes, if◌then◌else◌}
 use Rattle.kn_base.specs.declared.kinds.Code.{Code}
 use Rattle.kn_base.specs.declared.kinds.Code.TheVariants as phase
 use Rattle.kn_lines.specs.declared.built.Built.{Built}

@@ -1,6 +1,6 @@
 -- The ranges of the numbers of a line.
-use Rattle.std.specs.Prelude.{ℕ, ◌+◌, ◌*◌, ◌<◌, nat_lt, nat_le, Bool, false, not, ◌&&◌, ◌||◌, IfSome, List, [], ◌∷◌, length, slice_index, slice_index_or}
-use Rattle.std.specs.Prelude.{bytes_eq, codes}
+use Rattle.std.specs.Prelude.{ℕ, ◌+◌, ◌*◌, ◌<◌, nat_lt, nat_le, Bool, false, not, ◌&&◌, ◌||◌, IfSome, List, [], ◌∷◌, length}
+use Rattle.std.specs.Prelude.{slice_index, slice_index_or, bytes_eq, codes}
 use Rattle.std.specs.List.{AllByRecursion}
 use Rattle.kn_base.specs.Sizes.{Between}
 use Rattle.kn_base.specs.declared.limits.TheConstants.{MOST_FIELDS, MOST_FRAMES, MOST_HEAP_WORDS, MOST_CLEANERS}

@@ -1,4 +1,5 @@
-ghost use Rattle.std.specs.Prelude.{◌≡◌, ◌≢◌, ℕ, ◌+◌, ◌^◌, ◌<◌, ◌≤◌, [], ◌∷◌, length, slice_index, slice_index_or, bytes_eq, codes, MatchOption};
+ghost use Rattle.std.specs.Prelude.{◌≡◌, ◌≢◌, ℕ, ◌+◌, ◌^◌, ◌<◌, ◌≤◌, [], ◌∷◌, length, slice_index, slice_index_or};
+ghost use Rattle.std.specs.Prelude.{bytes_eq, codes, MatchOption};
 ghost use Rattle.kn_lines.specs.Lines.{Numbered, pieces_at, is_comment, line_words, words_unless_comment, without_return, has_odd_byte, unread};
 
 use std::marker::Model;

@@ -1,6 +1,6 @@
 -- What is added to the marks and to the work list.
-use Rattle.std.proofs.Common.{◌≡◌, ℕ, ◌+◌, ◌<◌, ◌≤◌, ◌⊎◌, ◌↔◌, ◌≢◌, Bool, true, false, not, cond, List, length, get_or, set, take}
-use Rattle.std.proofs.Common.{refl, sym, ◌∙◌, subst, inl, inr, arith, get_or-set_same, get_or-set_other, get_or-take, length-take}
+use Rattle.std.proofs.Common.{◌≡◌, ℕ, ◌+◌, ◌<◌, ◌≤◌, ◌⊎◌, ◌↔◌, ◌≢◌, Bool, true, false, not, cond, List, length, get_or}
+use Rattle.std.proofs.Common.{set, take, refl, sym, ◌∙◌, subst, inl, inr, arith, get_or-set_same, get_or-set_other, get_or-take, length-take}
 use Rattle.std.specs.List.{count_by}
 use Rattle.std.proofs.lemmas.Bool.{cases_eq, cases_lt}
 use Rattle.std.proofs.lemmas.List.{get_or_past}
@@ -93,7 +93,8 @@ Adds-then {P} {Q} R {marks} {marks'} {marks''} {work} {work'} {work''} {height} 
     }
 
 -- a set is added by another name
-pub Adds-as : {P : ℕ → Type 0} (R : ℕ → Type 0) {marks marks' : List Bool} {work work' : List ℕ} {height height' : ℕ} → ((n : ℕ) → R n ↔ P n)
+pub Adds-as : {P : ℕ → Type 0} (R : ℕ → Type 0) {marks marks' : List Bool} {work work' : List ℕ} {height height' : ℕ}
+    → ((n : ℕ) → R n ↔ P n)
     → Adds P marks work height marks' work' height' → Adds R marks work height marks' work' height'
 Adds-as R each a = record {
   marked = λ n. (

@@ -1,6 +1,6 @@
 -- Objects whose fields lie in two lists, written one at a time.
-use Rattle.std.proofs.Common.{◌≡◌, ℕ, zero, suc, ◌+◌, ◌-◌, ◌<◌, ◌≤◌, ◌≢◌, inl, inr, cond, List, [], ◌∷◌, ◌++◌, length, set, get_or, replicate, Option}
-use Rattle.std.proofs.Common.{Some, None, slice_get, refl, sym, ap, ◌∙◌, subst, arith}
+use Rattle.std.proofs.Common.{◌≡◌, ℕ, zero, suc, ◌+◌, ◌-◌, ◌<◌, ◌≤◌, ◌≢◌, inl, inr, cond, List, [], ◌∷◌, ◌++◌, length}
+use Rattle.std.proofs.Common.{set, get_or, replicate, Option, Some, None, slice_get, refl, sym, ap, ◌∙◌, subst, arith}
 use Rattle.std.specs.Option.{option_map}
 use Rattle.std.proofs.lemmas.List.{get_or-set_same, get_or-set_other, get_or_append_left, get_or-append_right, get_or-replicate}
 use Rattle.std.proofs.lemmas.Bool.Decides.{leb_tells}
@@ -81,7 +81,8 @@ pub field_within : (kept : List KeptObject) (fields n f : ℕ) (o : KeptObject) 
 field_within kept fields n f o laid at_n h = omega (arith, laid.within n (span_of_fields o) (ap (option_map span_of_fields) at_n))
 
 -- the spans of fields of two objects have no place in common
-places_apart : (spans : ℕ → Option Span) (fields n k : ℕ) (a b : Span) → AreLaid spans fields → spans n ≡ Some a → spans k ≡ Some b → n ≢ k →
+places_apart : (spans : ℕ → Option Span) (fields n k : ℕ) (a b : Span) → AreLaid spans fields → spans n ≡ Some a → spans k ≡ Some b →
+    n ≢ k →
     (f j : ℕ) → f < a.len → j < b.len → b.start + j ≢ a.start + f
 places_apart spans fields n k a b laid at_n at_k ne f j hf hj e = elim (leb_tells (suc n) k) [
   | inl t ↦ absurd (omega (arith, laid.behind n k a b t.1 at_n at_k))
@@ -133,7 +134,8 @@ module _ (kept : List KeptObject) (points : List (Option ℕ)) (numbers : List �
         (upd (λ k. object_of points numbers (slice_get kept k)) n
         (record (object_of points numbers (slice_get kept n)) { points = upd (object_of points numbers (slice_get kept n)).points f v }))
     nth_points =
-        let Written : Option KeptObject → Type 0 = λ b. ◌≡◌ {A = ℕ → Object} (λ k. object_of (set points (o.first + f) v) numbers (slice_get kept k))
+        let Written : Option KeptObject → Type 0 =
+        λ b. ◌≡◌ {A = ℕ → Object} (λ k. object_of (set points (o.first + f) v) numbers (slice_get kept k))
         (upd (λ k. object_of points numbers (slice_get kept k)) n (record (object_of points numbers b) {
           points =
               upd (object_of points numbers b).points f v;
@@ -176,7 +178,8 @@ module _ (kept : List KeptObject) (points : List (Option ℕ)) (numbers : List �
         (upd (λ k. object_of points numbers (slice_get kept k)) n
         (record (object_of points numbers (slice_get kept n)) { number = upd (object_of points numbers (slice_get kept n)).number f v }))
     nth_numbers =
-        let Written : Option KeptObject → Type 0 = λ b. ◌≡◌ {A = ℕ → Object} (λ k. object_of points (set numbers (o.first + f) v) (slice_get kept k))
+        let Written : Option KeptObject → Type 0 =
+        λ b. ◌≡◌ {A = ℕ → Object} (λ k. object_of points (set numbers (o.first + f) v) (slice_get kept k))
         (upd (λ k. object_of points numbers (slice_get kept k)) n (record (object_of points numbers b) {
           number =
               upd (object_of points numbers b).number f v;

@@ -1,6 +1,6 @@
 -- What is kept of objects stays so as they are written, born and released.
-use Rattle.std.proofs.Common.{◌≡◌, ℕ, suc, ◌+◌, ◌-◌, ◌^◌, ◌<◌, ◌≤◌, ◌↔◌, inl, inr, Bool, true, false, cond, max, List, [], ◌∷◌, ◌++◌, length, set}
-use Rattle.std.proofs.Common.{ltb}
+use Rattle.std.proofs.Common.{◌≡◌, ℕ, suc, ◌+◌, ◌-◌, ◌^◌, ◌<◌, ◌≤◌, ◌↔◌, inl, inr, Bool, true, false, cond, max, List, []}
+use Rattle.std.proofs.Common.{◌∷◌, ◌++◌, length, set, ltb}
 use Rattle.std.proofs.Common.{not, ◌||◌, ◌&&◌, get_or, Option, Some, None, slice_get, refl, sym, ap, ◌∙◌, subst, arith}
 use Rattle.std.specs.Option.{option_map}
 use Rattle.std.proofs.lemmas.List.{get_or_past, length-set, length_push}
@@ -24,7 +24,8 @@ module _ {B : Type 0} (part : Option KeptObject → B) (kept : List KeptObject) 
   pub parts_replaced : ◌≡◌ {A = ℕ → B} (λ k. part (slice_get (set kept n o) k)) (upd (λ k. part (slice_get kept k)) n (part (Some o)))
   parts_replaced = (λ t k. ap part (get_set kept n o k h) t) ∙ part_upd part (slice_get kept) n (Some o)
 
-  pub parts_same : part (slice_get kept n) ≡ part (Some o) → ◌≡◌ {A = ℕ → B} (λ k. part (slice_get (set kept n o) k)) (λ k. part (slice_get kept k))
+  pub parts_same : part (slice_get kept n) ≡ part (Some o) →
+      ◌≡◌ {A = ℕ → B} (λ k. part (slice_get (set kept n o) k)) (λ k. part (slice_get kept k))
   parts_same e = (λ t k. ap part (get_set kept n o k h) t) ∙ part_same part (slice_get kept) n (Some o) (sym e)
 
 -- an object that is put in the place of another one has its fields and its words

@@ -1,5 +1,6 @@
 -- Who has which word, as objects are born and released.
-use Rattle.std.proofs.Common.{◌≡◌, ℕ, ◌<◌, ◌≤◌, ◌≢◌, ◌⊎◌, inl, inr, List, get_or, Option, Some, None, sym, ◌∙◌, subst, arith}
+use Rattle.std.proofs.Common.{◌≡◌, ℕ, ◌<◌, ◌≤◌, ◌≢◌, ◌⊎◌, inl, inr, List, get_or, Option, Some, None, sym, ◌∙◌, subst}
+use Rattle.std.proofs.Common.{arith}
 use Rattle.std.proofs.lemmas.Option.{none-some, same_Some}
 use Rattle.kn_base.specs.declared.numbers.Span.{Span}
 use Rattle.kn_base.specs.Spans.{end_of}

@@ -1,8 +1,9 @@
 //! The objects of a graph in order of birth. No object is ever taken away. Who has which word of
 //! the heap is kept beside them, so that a birth and an address are looked up in one step.
 
-ghost use Rattle.std.specs.Prelude.{◌≡◌, ◌↔◌, ℕ, ◌+◌, ◌^◌, ◌<◌, ◌≤◌, ◌⊎◌, Bool, true, false, Some, None, IfOk, IfSome, OnOk, OnErr, IsTrue, ◌&&◌};
-ghost use Rattle.std.specs.Prelude.{◌||◌, not, nat_lt, [], ◌∷◌, ◌++◌, replicate, length, vec_len, vec_capacity, slice_get, slice_index_or};
+ghost use Rattle.std.specs.Prelude.{◌≡◌, ◌↔◌, ℕ, ◌+◌, ◌^◌, ◌<◌, ◌≤◌, ◌⊎◌, Bool, true, false, Some, None, IfOk, IfSome};
+ghost use Rattle.std.specs.Prelude.{OnOk, OnErr, IsTrue, ◌&&◌, ◌||◌, not, nat_lt, [], ◌∷◌, ◌++◌, replicate, length, vec_len, vec_capacity};
+ghost use Rattle.std.specs.Prelude.{slice_get, slice_index_or};
 ghost use Rattle.std.specs.Option.{option_map};
 ghost use Rattle.kn_base.specs.Spans.{end_of};
 ghost use Rattle.kn_base.specs.Functions.{upd};

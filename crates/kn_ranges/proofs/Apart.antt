@@ -1,5 +1,6 @@
 -- Lists of spans that stand apart: their parts, and how they are joined end to end.
-use Rattle.std.proofs.Common.{ℕ, zero, suc, ◌+◌, ◌<◌, ◌≤◌, List, [], ◌∷◌, ◌++◌, ◌≡◌, length, take, drop, slice_index_or, sym, ap, ◌∙◌, arith}
+use Rattle.std.proofs.Common.{ℕ, zero, suc, ◌+◌, ◌<◌, ◌≤◌, List, [], ◌∷◌, ◌++◌, ◌≡◌, length, take, drop, slice_index_or, sym}
+use Rattle.std.proofs.Common.{ap, ◌∙◌, arith}
 use Rattle.std.specs.List.{AllByRecursion}
 use Rattle.std.proofs.lemmas.List.{take-append-drop, drop_more}
 use Rattle.kn_base.specs.declared.numbers.Span.{Span}
@@ -7,13 +8,15 @@ use Rattle.kn_base.specs.Spans.{LiesIn, end_of}
 use Rattle.kn_base.specs.SpanLists.{IsFreeListOf, StandApart}
 
 -- wider bounds hold the same spans
-pub apart_within_wider : (low high low' high' : ℕ) (spans : List Span) → low' ≤ low → high ≤ high' → StandApart low high spans → StandApart low' high' spans
+pub apart_within_wider : (low high low' high' : ℕ) (spans : List Span) → low' ≤ low → high ≤ high' → StandApart low high spans →
+    StandApart low' high' spans
 apart_within_wider low high low' high' [] p q a = tt
 apart_within_wider low high low' high' (s ∷ spans) p q a =
     (omega (arith, a.0), a.1, omega (arith, a.2), apart_within_wider (end_of s + 1) high (end_of s + 1) high' spans (omega arith) q a.3)
 
 -- a list up to a place, and one from that place on, are one list
-pub apart_append : (low middle high : ℕ) (front back : List Span) → low ≤ middle → middle ≤ high → StandApart low middle front → StandApart middle high back
+pub apart_append : (low middle high : ℕ) (front back : List Span) → low ≤ middle → middle ≤ high → StandApart low middle front
+    → StandApart middle high back
     → StandApart low high (front ++ back)
 apart_append low middle high [] back p q f b = apart_within_wider middle high low high back p (omega arith) b
 apart_append low middle high (s ∷ front) back p q f b =
@@ -47,7 +50,8 @@ ends_before low high [] a = tt
 ends_before low high (s ∷ spans) a = ((a.1, a.2), ends_before (end_of s + 1) high spans a.3)
 
 -- each span from a place on has a word and begins at the place or behind it
-pub begins_behind : (low high : ℕ) (spans : List Span) → StandApart low high spans → AllByRecursion (λ span. (0 < span.len) × (low ≤ span.start)) spans
+pub begins_behind : (low high : ℕ) (spans : List Span) → StandApart low high spans →
+    AllByRecursion (λ span. (0 < span.len) × (low ≤ span.start)) spans
 begins_behind low high [] a = tt
 begins_behind low high (s ∷ spans) a =
     ((a.1, a.0), begins_behind low high spans (apart_within_wider (end_of s + 1) high low high spans (omega (arith, a.0)) (omega arith) a.3))

@@ -1,6 +1,6 @@
 -- Lists of free spans of a frame that is cut into cells.
-use Rattle.std.proofs.Common.{ℕ, ◌+◌, ◌-◌, ◌*◌, ◌/◌, ◌<◌, ◌≤◌, ◌≡◌, ◌⊎◌, List, [], ◌∷◌, ◌++◌, length, take, drop, slice_index_or, refl, ap, sym, subst}
-use Rattle.std.proofs.Common.{inl, inr, arith}
+use Rattle.std.proofs.Common.{ℕ, ◌+◌, ◌-◌, ◌*◌, ◌/◌, ◌<◌, ◌≤◌, ◌≡◌, ◌⊎◌, List, [], ◌∷◌, ◌++◌, length, take}
+use Rattle.std.proofs.Common.{drop, slice_index_or, refl, ap, sym, subst, inl, inr, arith}
 use Rattle.std.specs.List.{AllByRecursion}
 use Rattle.std.proofs.Math.Nat.{mul-le-mul_right}
 use Rattle.std.proofs.lemmas.Bool.{cases_eq, cases_lt, le-ltb, lt-ltb}
@@ -51,7 +51,8 @@ on_cells_joined frame words a b p q =
     (starts, ends)
 
 -- a cell put in leaves each free span on cells
-pub on_cells_put_in : (frame : Span) (words : ℕ) (cell : Span) (spans : List Span) → IsCell frame words cell → AllByRecursion (IsOnCells frame words) spans
+pub on_cells_put_in : (frame : Span) (words : ℕ) (cell : Span) (spans : List Span) → IsCell frame words cell
+    → AllByRecursion (IsOnCells frame words) spans
     → AllByRecursion (IsOnCells frame words) (put_in cell spans)
 on_cells_put_in frame words cell spans (bound, size, within) a =
     let end : IsCellBound frame words (end_of cell) = rw size (next_bound frame words cell.start bound) in
@@ -89,7 +90,8 @@ few_behind low frame words span (next ∷ spans) h apart on =
     omega arith
 
 -- free spans of a frame that is cut into cells of two words or more are at most a fourth of its words, and one
-pub few_on_cells : (frame : Span) (words : ℕ) (spans : List Span) → 2 ≤ words → IsFreeListOf frame spans → AllByRecursion (IsOnCells frame words) spans
+pub few_on_cells : (frame : Span) (words : ℕ) (spans : List Span) → 2 ≤ words → IsFreeListOf frame spans
+    → AllByRecursion (IsOnCells frame words) spans
     → length spans ≤ frame.len / 4 + 1
 few_on_cells frame words [] h apart on = omega arith
 few_on_cells frame words (span ∷ spans) h apart on =
@@ -135,7 +137,8 @@ on_cells_from_whole frame words spans apart whole =
         elim apart as (λ _. cell.start + words ≡ span.start) [ inl p ↦ omega (arith, has.0, has.1) | inr p ↦ absurd (omega (arith, has.0, has.1)) ] in
         subst (IsCellBound frame words) e (next_bound frame words cell.start bound)
 
-    begins_there : (cell span : Span) → IsCell frame words cell → AreApart cell span → HasWord cell (end_of span) → IsCellBound frame words (end_of span)
+    begins_there : (cell span : Span) → IsCell frame words cell → AreApart cell span → HasWord cell (end_of span) →
+        IsCellBound frame words (end_of span)
     begins_there cell span (bound, size, within) apart has =
         let e : cell.start ≡ end_of span =
         elim apart as (λ _. cell.start ≡ end_of span) [ inl p ↦ absurd (omega (arith, has.0, has.1)) | inr p ↦ omega (arith, has.0) ] in

@@ -17,7 +17,8 @@ each_parts P [] back a = (tt, a)
 each_parts P (s ∷ front) back a = let r = each_parts P front back a.1 in ((a.0, r.0), r.1)
 
 -- of each span with one more put in, where it holds of two joined
-pub each_put_in : (P : Span → Type 0) → ((a b : Span) → P a → P b → P (joined a b)) → (new : Span) (spans : List Span) → P new → AllByRecursion P spans
+pub each_put_in : (P : Span → Type 0) → ((a b : Span) → P a → P b → P (joined a b)) → (new : Span) (spans : List Span) → P new
+    → AllByRecursion P spans
     → AllByRecursion P (put_in new spans)
 each_put_in P join new [] p a = (p, tt)
 each_put_in P join new (s ∷ spans) p a =

@@ -1,6 +1,6 @@
 -- A span put in, as an edit at its place.
-use Rattle.std.proofs.Common.{ℕ, zero, suc, ◌+◌, ◌-◌, ◌<◌, ◌≤◌, ◌≡◌, ◌≢◌, List, [], ◌∷◌, ◌++◌, All, Any, length, take, drop, slice_index_or, slice_set}
-use Rattle.std.proofs.Common.{ap, sym, ◌∙◌, subst, inl, inr, arith, append_assoc, add-zero}
+use Rattle.std.proofs.Common.{ℕ, zero, suc, ◌+◌, ◌-◌, ◌<◌, ◌≤◌, ◌≡◌, ◌≢◌, List, [], ◌∷◌, ◌++◌, All, Any, length, take}
+use Rattle.std.proofs.Common.{drop, slice_index_or, slice_set, ap, sym, ◌∙◌, subst, inl, inr, arith, append_assoc, add-zero}
 use Rattle.std.specs.List.{AllByRecursion, HoldsAt, insert, remove}
 use Rattle.std.proofs.lemmas.Bool.{cases_eq, cases_lt}
 use Rattle.std.proofs.lemmas.List.{take-append-drop, drop_more, get_or-take, get_or-drop, length-drop, length-take-le, get_or_default, set_split, take_at}
@@ -13,7 +13,8 @@ use Rattle.kn_ranges.proofs.Apart.{apart_at_index, apart_before, apart_behind, a
 use Rattle.kn_ranges.proofs.Putting.{put_in_alone, put_in_at_end, put_in_at_start, put_in_between}
 
 -- a list with another span at a place
-set_at : (spans : List Span) (place : ℕ) (span : Span) → place < length spans → slice_set spans place span ≡ take place spans ++ span ∷ drop (place + 1) spans
+set_at : (spans : List Span) (place : ℕ) (span : Span) → place < length spans →
+    slice_set spans place span ≡ take place spans ++ span ∷ drop (place + 1) spans
 set_at spans place span h =
     let next : suc place ≡ place + 1 = omega arith in
     set_split spans place span h ∙ ap (λ n. take place spans ++ span ∷ drop n spans) next
@@ -74,7 +75,8 @@ strictly_before low high spans new place a h before differs =
     ]))
 
 -- where the first one begins behind the end of a new one, all do
-pub strictly_behind : (low high : ℕ) (spans : List Span) (new : Span) → StandApart low high spans → AllByRecursion (λ span. end_of new ≤ span.start) spans
+pub strictly_behind : (low high : ℕ) (spans : List Span) (new : Span) → StandApart low high spans
+    → AllByRecursion (λ span. end_of new ≤ span.start) spans
     → ((d : Span) → 0 < length spans → (slice_index_or spans 0 d).start ≢ end_of new)
     → AllByRecursion (λ span. end_of new < span.start) spans
 strictly_behind low high [] new a behind differs = tt
@@ -101,7 +103,8 @@ pub begins_behind_end : (low high : ℕ) (front : List Span) (span : Span) (back
     → AllByRecursion (λ s. end_of span < s.start) back
 begins_behind_end low high front span back a = weaker back (begins_behind (end_of span + 1) high back (apart_behind low high front span back a))
   where
-    weaker : (spans : List Span) → AllByRecursion (λ s. (0 < s.len) × (end_of span + 1 ≤ s.start)) spans → AllByRecursion (λ s. end_of span < s.start) spans
+    weaker : (spans : List Span) → AllByRecursion (λ s. (0 < s.len) × (end_of span + 1 ≤ s.start)) spans →
+        AllByRecursion (λ s. end_of span < s.start) spans
     weaker [] b = tt
     weaker (s ∷ spans) b = (omega (arith, b.0.1), weaker spans b.1)
 
@@ -153,7 +156,8 @@ put_in-remove low high spans new place at d a second within ends begins =
     let apart : StandApart low high (front ++ last ∷ next ∷ back) = subst (StandApart low high) split a in
     let before = ends_before_start low high front last (next ∷ back) new.start apart (omega arith) in
     let behind = begins_behind_end (end_of last + 1) high [] next back (apart_behind low high front last (next ∷ back) apart) in
-    let edited : slice_set spans place whole ≡ front ++ whole ∷ next ∷ back = set_at spans place whole (omega arith) ∙ ap (λ z. front ++ whole ∷ z) rest in
+    let edited : slice_set spans place whole ≡ front ++ whole ∷ next ∷ back =
+    set_at spans place whole (omega arith) ∙ ap (λ z. front ++ whole ∷ z) rest in
     let size : length front ≡ place = length-take-le place spans (omega arith) in
     ap (λ z. remove z at) edited
     ∙ ap (remove (front ++ whole ∷ next ∷ back)) second
@@ -165,7 +169,8 @@ put_in-remove low high spans new place at d a second within ends begins =
     removed front whole next back place size =
         let grouped : front ++ whole ∷ next ∷ back ≡ (front ++ whole ∷ []) ++ next ∷ back = sym (append_assoc front (whole ∷ []) (next ∷ back)) in
         let len : length (front ++ whole ∷ []) ≡ place + 1 = omega (arith, length_push front whole) in
-        let again : (front ++ whole ∷ []) ++ next ∷ back ≡ (front ++ whole ∷ next ∷ []) ++ back = sym (append_assoc (front ++ whole ∷ []) (next ∷ []) back)
+        let again : (front ++ whole ∷ []) ++ next ∷ back ≡ (front ++ whole ∷ next ∷ []) ++ back =
+        sym (append_assoc (front ++ whole ∷ []) (next ∷ []) back)
         ∙ ap (λ z. z ++ back) (append_assoc front (whole ∷ []) (next ∷ [])) in
         let long : length (front ++ whole ∷ next ∷ []) ≡ suc (place + 1) = omega (arith, length-append front (whole ∷ next ∷ []), size) in
         ap (λ z. take (place + 1) z ++ drop (suc (place + 1)) (front ++ whole ∷ next ∷ back)) grouped
@@ -174,7 +179,8 @@ put_in-remove low high spans new place at d a second within ends begins =
         (append_assoc front (whole ∷ []) back)
 
 -- a span between those that end before it and those that begin behind its end touches none
-pub touches_none : (spans : List Span) (new : Span) (place : ℕ) → place ≤ length spans → AllByRecursion (λ span. end_of span < new.start) (take place spans)
+pub touches_none : (spans : List Span) (new : Span) (place : ℕ) → place ≤ length spans
+    → AllByRecursion (λ span. end_of span < new.start) (take place spans)
     → AllByRecursion (λ span. end_of new < span.start) (drop place spans) → Any (Touches new) spans → ⊥
 touches_none spans new place h before behind (k, span, within, read, touch) =
     let front = All-from_recursion (λ (span : Span). end_of span < new.start) (take place spans) before in
@@ -202,7 +208,8 @@ last_at spans place start d (some, at) = (some, at d)
 
 -- where no span before a place ends at the start of a new one, those before the place end before it begins
 pub before_untouched : (low high : ℕ) (spans : List Span) (new : Span) (place : ℕ) → StandApart low high spans → place ≤ length spans
-    → AllByRecursion (λ span. end_of span ≤ new.start) (take place spans) → ((0 < place) × HoldsAt (λ span. end_of span ≡ new.start) spans (place - 1) → ⊥)
+    → AllByRecursion (λ span. end_of span ≤ new.start) (take place spans)
+    → ((0 < place) × HoldsAt (λ span. end_of span ≡ new.start) spans (place - 1) → ⊥)
     → AllByRecursion (λ span. end_of span < new.start) (take place spans)
 before_untouched low high spans new place a h before differs =
     strictly_before low high spans new place a h before

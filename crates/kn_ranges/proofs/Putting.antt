@@ -1,6 +1,6 @@
 -- A span put into a list, and joined with those that it touches.
-use Rattle.std.proofs.Common.{ℕ, zero, suc, ◌+◌, ◌<◌, ◌≤◌, ◌≡◌, ◌⊎◌, Any, List, [], ◌∷◌, ◌++◌, length, if◌then◌else◌, nat_lt, refl, ap, ◌∙◌, subst, inl}
-use Rattle.std.proofs.Common.{inr, arith}
+use Rattle.std.proofs.Common.{ℕ, zero, suc, ◌+◌, ◌<◌, ◌≤◌, ◌≡◌, ◌⊎◌, Any, List, [], ◌∷◌, ◌++◌, length}
+use Rattle.std.proofs.Common.{if◌then◌else◌, nat_lt, refl, ap, ◌∙◌, subst, inl, inr, arith}
 use Rattle.std.specs.List.{AllByRecursion}
 use Rattle.std.proofs.lemmas.Bool.{lt-ltb, le-ltb, cases_lt}
 use Rattle.kn_base.specs.declared.numbers.Span.{Span}
@@ -77,7 +77,8 @@ put_in_between new last next front back f e g b =
     ∙ ap (λ z. put_in z (next ∷ back)) first
     ∙ put_in-touching longer next back (omega arith) (omega arith)
     ∙ ap (λ z. put_in z back) second
-    ∙ put_in-cons whole back (let e' : end_of next ≡ end_of whole = omega arith in subst (λ n. AllByRecursion (λ (span : Span). n < span.start) back) e' b))
+    ∙ put_in-cons whole back
+    (let e' : end_of next ≡ end_of whole = omega arith in subst (λ n. AllByRecursion (λ (span : Span). n < span.start) back) e' b))
 
 -- spans that stand apart do so with one more
 pub apart_put_in : (low high : ℕ) (new : Span) (spans : List Span) → low ≤ new.start → 0 < new.len → end_of new < high → StandApart low high spans

@@ -1,6 +1,6 @@
 -- A list behind its first elements, where some elements are moved by one place.
-use Rattle.std.proofs.Common.{ℕ, suc, ◌+◌, ◌-◌, ◌<◌, ◌≤◌, ◌≡◌, List, [], ◌∷◌, ◌++◌, length, take, drop, slice_set, slice_index_or, append_assoc, ap, sym}
-use Rattle.std.proofs.Common.{◌∙◌, arith}
+use Rattle.std.proofs.Common.{ℕ, suc, ◌+◌, ◌-◌, ◌<◌, ◌≤◌, ◌≡◌, List, [], ◌∷◌, ◌++◌, length, take, drop, slice_set}
+use Rattle.std.proofs.Common.{slice_index_or, append_assoc, ap, sym, ◌∙◌, arith}
 use Rattle.std.specs.List.{insert, remove}
 use Rattle.std.proofs.Math.Seq.{drop-cons}
 use Rattle.std.proofs.lemmas.List.{drop-append-le, drop-drop, drop-set-add, drop-take, drop_at, length-append, length-drop, length-take-le, set_at, take-take}
@@ -53,7 +53,8 @@ moved_down xs ys first place k before at span some h eb ek ea e =
     ∙ set_at (take place rest) over (drop place rest) span place size
 
 -- an element left out behind the first ones
-pub drop-remove : (xs : List Span) (first place : ℕ) → first + place ≤ length xs → drop first (remove xs (first + place)) ≡ remove (drop first xs) place
+pub drop-remove : (xs : List Span) (first place : ℕ) → first + place ≤ length xs →
+    drop first (remove xs (first + place)) ≡ remove (drop first xs) place
 drop-remove xs first place h =
     let behind = drop (suc (first + place)) xs in
     let next : suc (first + place) ≡ first + suc place = omega arith in

@@ -1,6 +1,6 @@
 -- The first span that fits, and the spans without the words of a cell.
-use Rattle.std.proofs.Common.{ℕ, suc, ◌+◌, ◌-◌, ◌<◌, ◌≤◌, ◌≡◌, ◌⊎◌, ◌↔◌, List, [], ◌∷◌, ◌++◌, append-nil, Some, None, All, IsNone, length, take, drop}
-use Rattle.std.proofs.Common.{slice_index_or, slice_set, subst, min, max, refl, ap, sym, ◌∙◌, inl, inr, arith}
+use Rattle.std.proofs.Common.{ℕ, suc, ◌+◌, ◌-◌, ◌<◌, ◌≤◌, ◌≡◌, ◌⊎◌, ◌↔◌, List, [], ◌∷◌, ◌++◌, append-nil, Some}
+use Rattle.std.proofs.Common.{None, All, IsNone, length, take, drop, slice_index_or, slice_set, subst, min, max, refl, ap, sym, ◌∙◌, inl, inr, arith}
 use Rattle.std.specs.List.{AllByRecursion, HoldsAt, remove}
 use Rattle.std.specs.Option.{is_some, option_map}
 use Rattle.std.proofs.lemmas.Bool.{lt-ltb, le-ltb, le-leb, lt-leb, cases_lt, true≢false}
@@ -19,7 +19,8 @@ pub words_between_none : (low high : ℕ) → high ≤ low → words_between low
 words_between_none low high h = rw (le-ltb low high h)
 
 -- the words of a span lie between its ends
-pub words_between_ends : (low high : ℕ) (span : Span) → low ≡ span.start → high ≡ end_of span → 0 < span.len → words_between low high ≡ span ∷ []
+pub words_between_ends : (low high : ℕ) (span : Span) → low ≡ span.start → high ≡ end_of span → 0 < span.len →
+    words_between low high ≡ span ∷ []
 words_between_ends low high span p q h =
     let lt : low < high = omega arith in
     let len : high - span.start ≡ span.len = omega arith in
@@ -115,7 +116,8 @@ apart_span_without cell span h =
     (apart_between (max span.start (end_of cell)) (end_of span)))
 
 -- spans without a cell stand apart
-pub apart_without : (low high : ℕ) (cell : Span) (spans : List Span) → 0 < cell.len → StandApart low high spans → StandApart low high (without cell spans)
+pub apart_without : (low high : ℕ) (cell : Span) (spans : List Span) → 0 < cell.len → StandApart low high spans →
+    StandApart low high (without cell spans)
 apart_without low high cell [] h a = tt
 apart_without low high cell (s ∷ spans) h a =
     apart_append low (end_of s + 1) high (span_without cell s) (without cell spans) (omega (arith, a.0)) (omega (arith, a.2))
@@ -136,7 +138,8 @@ first_fit-none n (s ∷ spans) a = rw (lt-leb n s.len a.0) (first_fit-none n spa
 -- each span is too short, or one is the first fit
 pub first_fit_cases : (n : ℕ) (spans : List Span)
     → AllByRecursion (λ s. s.len < n) spans
-    ⊎ ((front : List Span) × (span : Span) × (back : List Span) × (spans ≡ front ++ span ∷ back) × AllByRecursion (λ s. s.len < n) front × (n ≤ span.len))
+    ⊎ ((front : List Span) × (span : Span) × (back : List Span) × (spans ≡ front ++ span ∷ back)
+    × AllByRecursion (λ s. s.len < n) front × (n ≤ span.len))
 first_fit_cases n [] = inl tt
 first_fit_cases n (s ∷ spans) =
     elim (cases_lt s.len n) [

@@ -1,5 +1,6 @@
 -- Which words a list of spans has, and what is apart from them.
-use Rattle.std.proofs.Common.{ℕ, ◌+◌, ◌<◌, ◌≤◌, ◌≡◌, ◌⊎◌, ◌↔◌, List, [], ◌∷◌, ◌++◌, min, max, if◌then◌else◌, nat_lt, inl, inr, arith}
+use Rattle.std.proofs.Common.{ℕ, ◌+◌, ◌<◌, ◌≤◌, ◌≡◌, ◌⊎◌, ◌↔◌, List, [], ◌∷◌, ◌++◌, min, max, if◌then◌else◌}
+use Rattle.std.proofs.Common.{nat_lt, inl, inr, arith}
 use Rattle.std.specs.List.{AllByRecursion}
 use Rattle.std.proofs.lemmas.Bool.{lt-ltb, le-ltb, cases_lt}
 use Rattle.kn_base.specs.declared.numbers.Span.{Span}
@@ -67,7 +68,8 @@ covers-words_between low high word =
     ]
 
 -- two spans with no word between them, joined, have the words of both
-pub has-joined : (a b : Span) (word : ℕ) → b.start ≤ end_of a → a.start ≤ end_of b → HasWord (joined a b) word ↔ (HasWord a word ⊎ HasWord b word)
+pub has-joined : (a b : Span) (word : ℕ) → b.start ≤ end_of a → a.start ≤ end_of b →
+    HasWord (joined a b) word ↔ (HasWord a word ⊎ HasWord b word)
 has-joined a b word p q = (
   λ h. elim (cases_lt word (end_of a)) as (λ _. HasWord a word ⊎ HasWord b word) [
     | inl less ↦ elim (cases_lt word a.start) as (λ _. HasWord a word ⊎ HasWord b word)
@@ -95,14 +97,23 @@ covers-put_in new (s ∷ spans) word =
   where
     passed : {A B C D : Type 0} → (C ↔ (A ⊎ D)) → (B ⊎ C) ↔ (A ⊎ (B ⊎ D))
     passed {A} {B} {C} {D} r = (
-      λ h. elim h as (λ _. A ⊎ (B ⊎ D)) [ inl b ↦ inr (inl b) | inr c ↦ elim (r.0 c) as (λ _. A ⊎ (B ⊎ D)) [ inl a ↦ inl a | inr d ↦ inr (inr d) ] ],
+      λ h. elim h as (λ _. A ⊎ (B ⊎ D)) [
+        | inl b ↦ inr (inl b)
+        | inr c ↦ elim (r.0 c) as (λ _. A ⊎ (B ⊎ D)) [ inl a ↦ inl a | inr d ↦ inr (inr d) ]
+      ],
       λ h. elim h as (λ _. B ⊎ C) [ inl a ↦ inr (r.1 (inl a)) | inr x ↦ elim x as (λ _. B ⊎ C) [ inl b ↦ inl b | inr d ↦ inr (r.1 (inr d)) ] ],
     )
 
     merged : {A B C D E : Type 0} → (E ↔ (A ⊎ B)) → (C ↔ (E ⊎ D)) → C ↔ (A ⊎ (B ⊎ D))
     merged {A} {B} {C} {D} {E} j r = (
-      λ c. elim (r.0 c) as (λ _. A ⊎ (B ⊎ D)) [ inl e ↦ elim (j.0 e) as (λ _. A ⊎ (B ⊎ D)) [ inl a ↦ inl a | inr b ↦ inr (inl b) ] | inr d ↦ inr (inr d) ],
-      λ h. elim h as (λ _. C) [ inl a ↦ r.1 (inl (j.1 (inl a))) | inr x ↦ elim x as (λ _. C) [ inl b ↦ r.1 (inl (j.1 (inr b))) | inr d ↦ r.1 (inr d) ] ],
+      λ c. elim (r.0 c) as (λ _. A ⊎ (B ⊎ D)) [
+        | inl e ↦ elim (j.0 e) as (λ _. A ⊎ (B ⊎ D)) [ inl a ↦ inl a | inr b ↦ inr (inl b) ]
+        | inr d ↦ inr (inr d)
+      ],
+      λ h. elim h as (λ _. C) [
+        | inl a ↦ r.1 (inl (j.1 (inl a)))
+        | inr x ↦ elim x as (λ _. C) [ inl b ↦ r.1 (inl (j.1 (inr b))) | inr d ↦ r.1 (inr d) ]
+      ],
     )
 
 -- a span without a cell has its words that are not in the cell
@@ -157,7 +168,8 @@ apart_from_words cell (s ∷ spans) h some free =
     (first, apart_from_words cell spans h some.1 (λ word has covers. free word has (inr covers)))
 
 -- spans apart from a cell have no word of it
-pub words_from_apart : (cell : Span) (spans : List Span) → AllByRecursion (AreApart cell) spans → (word : ℕ) → HasWord cell word → Covers spans word → ⊥
+pub words_from_apart : (cell : Span) (spans : List Span) → AllByRecursion (AreApart cell) spans → (word : ℕ) → HasWord cell word →
+    Covers spans word → ⊥
 words_from_apart cell [] apart word has covers = covers
 words_from_apart cell (s ∷ spans) apart word has (inl here) =
     elim apart.0 as (λ _. ⊥) [ inl p ↦ omega (arith, has.1, here.0) | inr p ↦ omega (arith, has.0, here.1) ]

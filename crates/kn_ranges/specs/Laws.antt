@@ -32,5 +32,6 @@ CellsAreReleased =
 -- where the words of a frame that are not free are whole cells, its spans are on cells, and a page has room for them
 abbrev pub WholeCellsAreLeft : Type 0
 WholeCellsAreLeft =
-    (frame : Span) (words : ℕ) (spans : List Span) → 2 ≤ words → IsFreeList spans → All (λ span. LiesIn span frame) spans → LeavesWholeCells frame words spans
+    (frame : Span) (words : ℕ) (spans : List Span) → 2 ≤ words → IsFreeList spans → All (λ span. LiesIn span frame) spans
+    → LeavesWholeCells frame words spans
     → AreOnCells frame words spans × (length spans ≤ page_room frame)

@@ -8,7 +8,8 @@
 //! A span is put in or taken out by moving the fewer of those before it and those behind it. Where one
 //! side has no free slot, all spans are first moved to the middle, which gives each side so many slots
 //! that this is rare.
-ghost use Rattle.std.specs.Prelude.{◌≡◌, ℕ, ◌+◌, ◌-◌, ◌*◌, ◌<◌, ◌≤◌, IfOk, [], ◌∷◌, drop, length, slice_set, vec_len, vec_capacity};
+ghost use Rattle.std.specs.Prelude.{◌≡◌, ℕ, ◌+◌, ◌-◌, ◌*◌, ◌<◌, ◌≤◌, IfOk, [], ◌∷◌, drop, length, slice_set, vec_len};
+ghost use Rattle.std.specs.Prelude.{vec_capacity};
 ghost use Rattle.std.specs.List.{insert, remove};
 
 use kn_base::Span;

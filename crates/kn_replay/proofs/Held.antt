@@ -17,7 +17,8 @@ born_still born born' more (Some n) a = omega arith
 
 module _ (born : ℕ) where
   -- one value is written
-  held_upd : (f : ℕ → Option ℕ) (i : ℕ) (a : Option ℕ) → WasBorn born a → ((j : ℕ) → WasBorn born (f j)) → (j : ℕ) → WasBorn born (upd f i a j)
+  held_upd : (f : ℕ → Option ℕ) (i : ℕ) (a : Option ℕ) → WasBorn born a → ((j : ℕ) → WasBorn born (f j)) → (j : ℕ) →
+      WasBorn born (upd f i a j)
   held_upd f i a here all j = upd_case (λ _ b. WasBorn born b) f i a here j (λ _. all j)
 
   held_upd2 : (f : ℕ → ℕ → Option ℕ) (t r : ℕ) (a : Option ℕ) → WasBorn born a → ((t j : ℕ) → WasBorn born (f t j)) →

@@ -1,8 +1,8 @@
 //! Applying entries. Whether an entry is legal next is told before anything is changed
 //! (`IsDecided` in `specs/Applying.antt`).
 
-ghost use Rattle.std.specs.Prelude.{◌≡◌, ◌↔◌, ◌≢◌, ℕ, ◌+◌, ◌-◌, ◌^◌, ◌<◌, ◌≤◌, ◌⊎◌, Bool, true, false, List, Option, Some, None, IfOk, IfSome};
-ghost use Rattle.std.specs.Prelude.{IsTrue, MatchResult, vec_len, length, slice_get};
+ghost use Rattle.std.specs.Prelude.{◌≡◌, ◌↔◌, ◌≢◌, ℕ, ◌+◌, ◌-◌, ◌^◌, ◌<◌, ◌≤◌, ◌⊎◌, Bool, true, false, List};
+ghost use Rattle.std.specs.Prelude.{Option, Some, None, IfOk, IfSome, IsTrue, MatchResult, vec_len, length, slice_get};
 ghost use Rattle.kn_base.specs.Spans.{end_of};
 ghost use Rattle.kn_graph.specs.Graph.{IsLegalBirth, Names, cell_at};
 ghost use Rattle.kn_graph.specs.Arguments.{IsInRange};

@@ -2,8 +2,8 @@
 //! what locals and names hold (`Holders`), and the numbers of pauses; between any two steps
 //! `FitTogether` in `specs/Held.antt` holds.
 
-ghost use Rattle.std.specs.Prelude.{◌≡◌, ℕ, ◌+◌, ◌-◌, ◌^◌, ◌<◌, ◌≤◌, MatchResult, ◌↔◌, true, false, IfOk, IfSome, length, replicate, slice_get};
-ghost use Rattle.std.specs.Prelude.{slice_index_or};
+ghost use Rattle.std.specs.Prelude.{◌≡◌, ℕ, ◌+◌, ◌-◌, ◌^◌, ◌<◌, ◌≤◌, MatchResult, ◌↔◌, true, false, IfOk, IfSome, length};
+ghost use Rattle.std.specs.Prelude.{replicate, slice_get, slice_index_or};
 
 use crate::changes::Newborn;
 use kn_base::{Caller, Sizes};

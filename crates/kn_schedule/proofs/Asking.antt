@@ -1,6 +1,7 @@
 -- What the turns of threads asked one after another come to.
-use Rattle.std.proofs.Common.{◌≡◌, ◌≢◌, ◌⊎◌, ℕ, zero, suc, ◌+◌, ◌-◌, ◌<◌, ◌≤◌, Bool, true, false, cond, eqb, nat_lt, List, [], ◌∷◌, ◌++◌}
-use Rattle.std.proofs.Common.{length, get_or, refl, sym, ◌∙◌, ap, subst, inl, inr, arith, append_assoc, append-nil, length-set, length-append}
+use Rattle.std.proofs.Common.{◌≡◌, ◌≢◌, ◌⊎◌, ℕ, zero, suc, ◌+◌, ◌-◌, ◌<◌, ◌≤◌, Bool, true, false, cond, eqb, nat_lt, List}
+use Rattle.std.proofs.Common.{[], ◌∷◌, ◌++◌, length, get_or, refl, sym, ◌∙◌, ap, subst, inl, inr, arith, append_assoc, append-nil, length-set}
+use Rattle.std.proofs.Common.{length-append}
 use Rattle.std.specs.Prelude.{sum}
 use Rattle.std.proofs.lemmas.List.{get_or-set_other, get_or_past, set_past}
 use Rattle.std.proofs.lemmas.List.Sums.{get_or-le-sum_by, sum_by-append, sum_by-set}
@@ -61,7 +62,8 @@ same false n m k e h = omega arith
 times-append : (before : List ℕ) (t u : ℕ) → times u (before ++ t ∷ []) ≡ times u before + cond (eqb t u) 1 0
 times-append before t u = omega (arith, sum_by-append (λ v. cond (eqb v u) 1 0) before (t ∷ []))
 
-left_at : (calls before left : List ℕ) (t u : ℕ) → AreLeft calls before left → ((eqb t u ≡ true) × (t ≡ u)) ⊎ ((eqb t u ≡ false) × (t ≢ u)) →
+left_at : (calls before left : List ℕ) (t u : ℕ) → AreLeft calls before left →
+    ((eqb t u ≡ true) × (t ≡ u)) ⊎ ((eqb t u ≡ false) × (t ≢ u)) →
     get_or (left_after t left) u 0 ≡ get_or calls u 0 - (times u before + cond (eqb t u) 1 0)
 left_at calls before left t u are (inl e) =
     ap (λ k. get_or (left_after t left) k 0) (sym e.1) ∙ less_here left t ∙ ap (λ k. get_or left k 0 - 1) e.1
@@ -100,7 +102,8 @@ count_there false t u e = refl
 one_turn : (left : List ℕ) (t u : ℕ) → times u (turn_of t left) + get_or (left_after t left) u 0 ≡ get_or left u 0
 one_turn left t u = by (eqb_tells t u)
   where
-    by : ((eqb t u ≡ true) × (t ≡ u)) ⊎ ((eqb t u ≡ false) × (t ≢ u)) → times u (turn_of t left) + get_or (left_after t left) u 0 ≡ get_or left u 0
+    by : ((eqb t u ≡ true) × (t ≡ u)) ⊎ ((eqb t u ≡ false) × (t ≢ u)) →
+        times u (turn_of t left) + get_or (left_after t left) u 0 ≡ get_or left u 0
     by (inl e) =
         let here = count_here (get_or left t 0) t u e.0 in
         let less = less_here left t in

@@ -1,7 +1,7 @@
 -- A progress is good between any two lines, and every text is of a good script.
-use Rattle.std.proofs.Common.{◌≡◌, ℕ, zero, suc, ◌+◌, ◌*◌, ◌<◌, ◌≤◌, ◌-◌, nat_le, nat_lt, not, ◌&&◌, ◌||◌, Bool, true, false, Option, Some, None}
-use Rattle.std.proofs.Common.{List, [], ◌∷◌, ◌++◌, length, get_or, set, replicate, cond, filter_map, sum_by, bytes_eq, codes, length-append}
-use Rattle.std.proofs.Common.{length-set, refl, ap, sym, ◌∙◌, subst, arith}
+use Rattle.std.proofs.Common.{◌≡◌, ℕ, zero, suc, ◌+◌, ◌*◌, ◌<◌, ◌≤◌, ◌-◌, nat_le, nat_lt, not, ◌&&◌, ◌||◌, Bool, true}
+use Rattle.std.proofs.Common.{false, Option, Some, None, List, [], ◌∷◌, ◌++◌, length, get_or, set, replicate, cond, filter_map, sum_by, bytes_eq}
+use Rattle.std.proofs.Common.{codes, length-append, length-set, refl, ap, sym, ◌∙◌, subst, arith}
 use Rattle.std.specs.List.{AllByRecursion}
 use Rattle.std.proofs.Math.Nat.{mul-le-mul_left}
 use Rattle.std.proofs.lemmas.Bool.{ltb-false, leb-false, le-leb, or_parts, not-false}

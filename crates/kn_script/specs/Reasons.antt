@@ -1,6 +1,6 @@
 -- The table of reasons: why a line is bad behind what the lines so far have given.
-use Rattle.std.specs.Prelude.{◌≡◌, ◌⊎◌, ℕ, ◌+◌, ◌<◌, nat_lt, nat_le, Bool, true, false, not, ◌&&◌, ◌||◌, Option, Some, None, List, [], ◌∷◌}
-use Rattle.std.specs.Prelude.{length, slice_get, bytes_eq, codes, if◌then◌else◌}
+use Rattle.std.specs.Prelude.{◌≡◌, ◌⊎◌, ℕ, ◌+◌, ◌<◌, nat_lt, nat_le, Bool, true, false, not, ◌&&◌, ◌||◌, Option, Some, None, List}
+use Rattle.std.specs.Prelude.{[], ◌∷◌, length, slice_get, bytes_eq, codes, if◌then◌else◌}
 use Rattle.kn_base.specs.declared.limits.TheConstants.{MOST_LAYOUTS, MOST_CALLS, MOST_CLEANERS, MOST_ORDER_WORDS}
 use Rattle.kn_layout.specs.declared.layouts.Layout.{Layout}
 use Rattle.kn_layout.specs.declared.layouts.Layout.TheVariants.{Fields, Array}

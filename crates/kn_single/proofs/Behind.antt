@@ -1,5 +1,6 @@
 -- The words of a frame behind a cell at its start.
-use Rattle.std.proofs.Common.{ℕ, ◌+◌, ◌-◌, ◌<◌, ◌≤◌, ◌≡◌, [], ◌∷◌, Option, Some, length, refl, ap, ◌∙◌, sym, subst, inl, inr, arith}
+use Rattle.std.proofs.Common.{ℕ, ◌+◌, ◌-◌, ◌<◌, ◌≤◌, ◌≡◌, [], ◌∷◌, Option, Some, length, refl, ap, ◌∙◌, sym, subst, inl}
+use Rattle.std.proofs.Common.{inr, arith}
 use Rattle.std.specs.Prelude.{Any, MatchOption}
 use Rattle.std.specs.Option.{option_map}
 use Rattle.std.proofs.lemmas.Bool.{lt-ltb, le-ltb, le-leb, cases_lt}
@@ -36,7 +37,8 @@ free_word_count-behind n frame h =
     ]
 
 -- a page from which no cell was taken is whole
-pub whole_without_cell : (page : SingleState) → 0 < page.frame.len → LeavesOneCell page.frame page.spans → ¬ HasTakenCell page → page.spans ≡ page.frame ∷ []
+pub whole_without_cell : (page : SingleState) → 0 < page.frame.len → LeavesOneCell page.frame page.spans → ¬ HasTakenCell page →
+    page.spans ≡ page.frame ∷ []
 whole_without_cell page p l none =
     elim (cases_lt 0 l.0) [
       | inl taken ↦ absurd (none (front_of l.0 page.frame, record { at_start = refl; not_empty = taken; within = l.1; rest_is_free = l.2 }))

@@ -1,4 +1,5 @@
-use Rattle.std.proofs.Common.{ℕ, ◌+◌, ◌<◌, ◌≤◌, ◌≡◌, List, ◌++◌, drop, length, slice_index_or, slice_set, take, ap, sym, ◌∙◌, subst, arith}
+use Rattle.std.proofs.Common.{ℕ, ◌+◌, ◌<◌, ◌≤◌, ◌≡◌, List, ◌++◌, drop, length, slice_index_or, slice_set, take, ap, sym, ◌∙◌}
+use Rattle.std.proofs.Common.{subst, arith}
 use Rattle.std.proofs.lemmas.List.{get_or_default}
 use Rattle.kn_base.specs.declared.numbers.Span.{Span}
 use Rattle.kn_base.specs.SpanLists.{words_between}
@@ -11,7 +12,8 @@ use Rattle.kn_ranges.proofs.edits.cut_front.Goals.{then-span-n, else-span-n}
 -- what is left of a span is said of it, read from either list
 read_from : (list spans left : List Span) (place n : ℕ) (d e : Span) → list ≡ spans → place < length spans
     → left ≡ take place spans ++ (words_between ((slice_index_or list place d).start + n) (end_of (slice_index_or list place d)) ++ drop (place + 1) spans)
-    → left ≡ take place spans ++ (words_between ((slice_index_or spans place e).start + n) (end_of (slice_index_or spans place e)) ++ drop (place + 1) spans)
+    → left ≡ take place spans
+    ++ (words_between ((slice_index_or spans place e).start + n) (end_of (slice_index_or spans place e)) ++ drop (place + 1) spans)
 read_from list spans left place n d e same within h =
     subst (λ (span : Span). left ≡ take place spans ++ (words_between (span.start + n) (end_of span) ++ drop (place + 1) spans))
     (ap (λ xs. slice_index_or xs place d) same ∙ get_or_default spans place d e within) h

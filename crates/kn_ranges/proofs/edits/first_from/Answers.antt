@@ -29,7 +29,8 @@ returns-then-is_empty-clause-behind c =
     let spans : List Span = c.args.spans.now in
     let none : Span = record { start = 0; len = 0 } in
     begin_from_first 0 _ c.args.low spans c.requires (λ d some. elim c.then-is_empty.branch as (λ _. c.args.low ≤ (slice_index_or spans 0 d).start) [
-      | then-is_empty-via-then-is_empty w ↦ let empty : length spans ≡ 0 = eqb-true (length spans) 0 (sym c.is_empty.ensures ∙ w.if-is_empty.true) in absurd
+      | then-is_empty-via-then-is_empty w ↦ let empty : length spans ≡ 0 =
+          eqb-true (length spans) 0 (sym c.is_empty.ensures ∙ w.if-is_empty.true) in absurd
           (omega arith)
       | then-is_empty-via-else-is_empty+then-spans-low w ↦ subst (λ (span : Span). c.args.low ≤ span.start) (get_or_default spans 0 none d some)
           w.if-spans-low.true

@@ -1,5 +1,5 @@
-use Rattle.std.proofs.Common.{◌+◌, ◌-◌, ◌<◌, ◌≤◌, ◌≡◌, ℕ, List, All, Any, drop, length, slice_index_or, slice_set, take, refl, sym, ap, ◌∙◌, subst, inl}
-use Rattle.std.proofs.Common.{inr, arith}
+use Rattle.std.proofs.Common.{◌+◌, ◌-◌, ◌<◌, ◌≤◌, ◌≡◌, ℕ, List, All, Any, drop, length, slice_index_or, slice_set, take, refl, sym}
+use Rattle.std.proofs.Common.{ap, ◌∙◌, subst, inl, inr, arith}
 use Rattle.std.specs.List.{AllByRecursion, HoldsAt, insert, remove}
 use Rattle.std.proofs.lemmas.Bool.{iff_false}
 use Rattle.kn_base.specs.declared.numbers.Span.{Span}
@@ -111,7 +111,8 @@ returns-in-true-false c =
     (subst (λ n. AllByRecursion (λ (other : Span). end_of span < other.start) (drop n list)) (sym same) behind) in
     let here = subst (λ xs. slice_set xs (place - 1) (record { start = last_span.start; len = last_span.len + span.len }) ≡ put_in span xs)
     c.spans-list.ensures.spans put in
-    c.set-in-true-false.ensures ∙ ap (with_spans c.args.spans.now.room) (ap (slice_set c.args.spans.now.spans (place - 1)) c.new-in-true-false.ensures ∙ here)
+    c.set-in-true-false.ensures
+    ∙ ap (with_spans c.args.spans.now.room) (ap (slice_set c.args.spans.now.spans (place - 1)) c.new-in-true-false.ensures ∙ here)
 
 pub returns-in-false-true : goal.returns-in-false-true
 unfolding with_spans

@@ -6,7 +6,8 @@ use Rattle.kn_schedule.proofs.Asking.{turns_taken-append, turns_are, in_full, fe
 use Rattle.kn_schedule.proofs.turns.turns_of.Goals as goal
 
 joined : (named calls first then all left : List ℕ) (n : ℕ) → first ≡ [] → then ≡ first ++ turns_taken named calls →
-    left ≡ left_behind named calls → n ≡ sum calls → all ≡ then ++ turns_taken (rounds n) left → all ≡ turns_taken (named ++ rounds (sum calls)) calls
+    left ≡ left_behind named calls → n ≡ sum calls → all ≡ then ++ turns_taken (rounds n) left →
+    all ≡ turns_taken (named ++ rounds (sum calls)) calls
 joined named calls first then all left n empty named_ones behind count rest =
     let split = turns_taken-append named (rounds (sum calls)) calls in
     cc

@@ -22,7 +22,8 @@ pub returns-clause-others : goal.returns-clause-others
 returns-clause-others c =
     let p = c.self.inside in
     let Kept : Span → Type 0 = λ other. IsTakenCell p.frame p.words c.put.new.self.spans other in
-    let Others : FixedState → Type 0 = λ page. (other : Span) → AreApart other c.args.cell → IsTakenCell page.frame page.words page.spans other → Kept other in
+    let Others : FixedState → Type 0 =
+    λ page. (other : Span) → AreApart other c.args.cell → IsTakenCell page.frame page.words page.spans other → Kept other in
     subst Others c.self.view_is (λ other apart taken.
     let some : 0 < other.len = omega (arith, taken.0.1, c.self.invariant.size.0) in
     (taken.0, c.put.ensures.others other some apart taken.1))
