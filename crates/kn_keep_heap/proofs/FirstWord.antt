@@ -36,7 +36,8 @@ use Rattle.kn_keep_heap.proofs.Changed.{some_is}
 use Rattle.kn_keep_heap.specs.Answered.{staying}
 use Rattle.kn_keep_heap.proofs.Parts.{views_moved, local_same, own_put, taken_put, position_same, header_same, log_same}
 use Rattle.kn_keep_heap.proofs.ReadLaws.{few, snd}
-use Rattle.kn_keep_heap.proofs.FreeSpans.{in_without, without_has, apart_if}
+use Rattle.kn_base.proofs.Covers.{covers-without}
+use Rattle.kn_keep_heap.proofs.FreeSpans.{apart_if}
 use Rattle.kn_keep_heap.proofs.CellWords.{headed_beside, fielded_beside, cleared_more}
 use Rattle.kn_keep_heap.proofs.Owns.{gets_case, gets_hit, gets_else, framed_same, owners_same}
 use Rattle.kn_keep_heap.proofs.NextWord.{request_two, cleared_next}
@@ -168,8 +169,8 @@ module _ (z : Ground) (good : IsGoodGround z) (s : State) (by : ℕ) (less : by 
         Covers o.free a ↔ (HasWord frame a × (¬ (filled a ⊎ HasWord cell a)))
     this_frame o e a =
         subst (λ (y : Open). Covers y.free a ↔ (HasWord frame a × (¬ (filled a ⊎ HasWord cell a)))) (some_is new_open o e) (
-          (λ q. let left = in_without cell may.hold.free a q in let h = ((free_words a).0 left.0).0 in (h, λ bad. at_free a h left.0 left.1 bad)),
-          (λ t. without_has cell may.hold.free a ((free_words a).1 (t.0, λ bad. was_free a t.1 bad)) (λ q. t.1 (inr q))),
+          (λ q. let left = (covers-without cell may.hold.free a).0 q in let h = ((free_words a).0 left.0).0 in (h, λ bad. at_free a h left.0 left.1 bad)),
+          (λ t. (covers-without cell may.hold.free a).1 ((free_words a).1 (t.0, λ bad. was_free a t.1 bad), λ q. t.1 (inr q))),
         )
 
     handed_new : Handed z.sizes (callers z.sizes) filled (upd V.own by (upd (V.own by) may.frame (Some new_open))) (upd V.taken by (Some new_taken))

@@ -10,10 +10,11 @@ use Rattle.kn_base.specs.Spans.{AreApart, LiesIn, end_of}
 use Rattle.kn_base.specs.SpanLists.{Covers, HasWord, IsFreeListOf, StandApart, front_of, joined, put_in, without, words_between}
 use Rattle.kn_ranges.specs.Laws.{CellsAreReleased, CellsAreTaken, PutsHaveRoom, WholeCellsAreLeft}
 use Rattle.kn_ranges.specs.Cells.{IsCell, IsCellBound, IsOnCells, LeavesWholeCells}
-use Rattle.kn_ranges.proofs.Apart.{apart_at, apart_in_frame, split_at}
+use Rattle.kn_base.proofs.Apart.{apart_at, apart_in_frame, parts_at}
 use Rattle.kn_ranges.proofs.Each.{each_append, each_parts, each_put_in}
 use Rattle.kn_ranges.proofs.Putting.{apart_put_in, longer_or_touching}
-use Rattle.kn_ranges.proofs.Taking.{apart_without, taken_from, without-front}
+use Rattle.kn_base.proofs.Without.{apart_without}
+use Rattle.kn_ranges.proofs.Taking.{taken_from, without-front}
 use Rattle.kn_ranges.proofs.Words.{apart_after_without, not_beside}
 
 -- the end of a cell is the start of the next one
@@ -106,7 +107,7 @@ on_cells_from_whole frame words spans apart whole =
     let span = slice_index_or spans k d in
     let front = take k spans in
     let back = drop (k + 1) spans in
-    let split : spans ≡ front ++ span ∷ back = split_at spans k d within in
+    let split : spans ≡ front ++ span ∷ back = parts_at spans k d within in
     let apart' : StandApart frame.start (end_of frame + 1) (front ++ span ∷ back) = subst (StandApart frame.start (end_of frame + 1)) split apart in
     let lies = apart_at frame.start (end_of frame + 1) front span back apart' in
     let start : IsCellBound frame words span.start =

@@ -1,6 +1,3 @@
-pub mod Slots
-pub mod Apart
-pub mod Order
 pub mod Taking
 pub mod Putting
 pub mod FreeWords

@@ -9,7 +9,7 @@ use Rattle.std.proofs.lemmas.List.Elements.{All-drop, All-from_recursion, All-ta
 use Rattle.kn_base.specs.declared.numbers.Span.{Span}
 use Rattle.kn_base.specs.Spans.{end_of, AreApart}
 use Rattle.kn_base.specs.SpanLists.{StandApart, Touches, put_in}
-use Rattle.kn_ranges.proofs.Apart.{apart_at_index, apart_before, apart_behind, apart_by_index, apart_within_wider, begins_behind, ends_before, split_at}
+use Rattle.kn_base.proofs.Apart.{apart_at_index, apart_before, apart_behind, apart_by_index, apart_within_wider, begins_behind, ends_before, parts_at}
 use Rattle.kn_ranges.proofs.Putting.{put_in_alone, put_in_at_end, put_in_at_start, put_in_between}
 
 -- a list with another span at a place
@@ -121,7 +121,7 @@ pub put_in-set_end : (low high : ℕ) (spans : List Span) (new : Span) (place : 
     → slice_set spans place (record { start = (slice_index_or spans place d).start; len = (slice_index_or spans place d).len + new.len }) ≡ put_in new spans
 put_in-set_end low high spans new place d a within ends behind =
     let last = slice_index_or spans place d in
-    let split : spans ≡ take place spans ++ last ∷ drop (place + 1) spans = split_at spans place d within in
+    let split : spans ≡ take place spans ++ last ∷ drop (place + 1) spans = parts_at spans place d within in
     let apart : StandApart low high (take place spans ++ last ∷ drop (place + 1) spans) = subst (StandApart low high) split a in
     let before = ends_before_start low high (take place spans) last (drop (place + 1) spans) new.start apart (omega arith) in
     set_at spans place (record { start = last.start; len = last.len + new.len }) within
@@ -133,7 +133,7 @@ pub put_in-set_start : (low high : ℕ) (spans : List Span) (new : Span) (place 
     → slice_set spans place (record { start = new.start; len = new.len + (slice_index_or spans place d).len }) ≡ put_in new spans
 put_in-set_start low high spans new place d a within begins before =
     let next = slice_index_or spans place d in
-    let split : spans ≡ take place spans ++ next ∷ drop (place + 1) spans = split_at spans place d within in
+    let split : spans ≡ take place spans ++ next ∷ drop (place + 1) spans = parts_at spans place d within in
     let apart : StandApart low high (take place spans ++ next ∷ drop (place + 1) spans) = subst (StandApart low high) split a in
     let behind = begins_behind_end low high (take place spans) next (drop (place + 1) spans) apart in
     set_at spans place (record { start = new.start; len = new.len + next.len }) within
@@ -152,7 +152,7 @@ put_in-remove low high spans new place at d a second within ends begins =
     let next = slice_index_or spans at d in
     let whole : Span = record { start = last.start; len = last.len + (new.len + next.len) } in
     let rest : drop (place + 1) spans ≡ next ∷ back = ap (λ n. drop n spans) (sym second) ∙ drop_more spans at d within in
-    let split : spans ≡ front ++ last ∷ next ∷ back = split_at spans place d (omega arith) ∙ ap (λ z. front ++ last ∷ z) rest in
+    let split : spans ≡ front ++ last ∷ next ∷ back = parts_at spans place d (omega arith) ∙ ap (λ z. front ++ last ∷ z) rest in
     let apart : StandApart low high (front ++ last ∷ next ∷ back) = subst (StandApart low high) split a in
     let before = ends_before_start low high front last (next ∷ back) new.start apart (omega arith) in
     let behind = begins_behind_end (end_of last + 1) high [] next back (apart_behind low high front last (next ∷ back) apart) in

@@ -6,7 +6,7 @@ use Rattle.std.proofs.lemmas.Bool.{lt-ltb, le-ltb, cases_lt}
 use Rattle.kn_base.specs.declared.numbers.Span.{Span}
 use Rattle.kn_base.specs.Spans.{end_of, AreApart}
 use Rattle.kn_base.specs.SpanLists.{StandApart, Touches, joined, put_in}
-use Rattle.kn_ranges.proofs.Apart.{apart_within_wider}
+use Rattle.kn_base.proofs.Apart.{apart_within_wider}
 
 -- spans of one start and one length are one
 pub span_same : (a b : Span) → a.start ≡ b.start → a.len ≡ b.len → a ≡ b

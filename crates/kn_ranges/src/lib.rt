@@ -16,6 +16,7 @@ pub use laws::{
     cells_are_released, cells_are_taken, fronts_leave_rests, puts_have_room, whole_cells_are_left,
 };
 pub use ranges::Ranges;
+pub use span_array::SpanArray;
 
 #[cfg(test)]
 mod tests;

@@ -1,6 +1,7 @@
 //! Spans in order in one array, with free slots before and behind them.
 //!
-//! A `SpanArray` owns the array, and the `Ranges` that holds it alone changes it. The slots from
+//! A `SpanArray` owns the array, and who holds it alone changes it: a `Ranges`, or what is stored of a
+//! frame that a caller owns. The slots from
 //! `first` to the array's end hold the spans; those before it are free, and so is the array's spare
 //! capacity. Between any two calls the spans are no more than there is room for, and the array has
 //! twice that capacity (`invariant` below).

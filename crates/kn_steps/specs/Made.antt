@@ -13,16 +13,16 @@ use Rattle.kn_rule.specs.Rule.{Shown}
 
 -- whose steps they are: over a heap of which sizes and layouts, which caller, and what it knows
 pub record Stand : Type 0 where
-  pub ground : Ground
+  pub heap : Ground
   pub by : ℕ
   pub view : View
 
 -- the step is allowed in the caller's view
 abbrev pub Allowed : Stand → (ℕ → Bool) → Step → Type 0
-Allowed a here d = MayMake a.ground a.by a.view here d
+Allowed a here d = MayMake a.heap a.by a.view here d
 
 abbrev pub stand_after : Stand → Step → Found → Stand
-stand_after a d f = record a { view = view_after a.ground a.by a.view d f }
+stand_after a d f = record a { view = view_after a.heap a.by a.view d f }
 
 -- of each frame that the view owns, it is said truly whether its page lies in its slot
 abbrev pub LieAs : View → (ℕ → Bool) → (ℕ → Bool) → Type 0
@@ -41,7 +41,7 @@ here_after here d f = here_by here (frame_in d.place) (word_wanted d.act) f d.ki
 pub record Made (a : Stand) (here : ℕ → Bool) (d : Step) (f : Found) (b : Stand) (here' : ℕ → Bool) : Type 0 where
   pub view : b ≡ stand_after a d f
   pub lies : LieAs b.view (here_after here d f) here'
-  pub shown : Shown a.ground a.by a.view d f
+  pub shown : Shown a.heap a.by a.view d f
 
 -- the word that an exchange found
 abbrev pub word_told : Result ℕ ℕ → ℕ
@@ -59,7 +59,7 @@ MayMoveAt z v p h None = h ≡ true
 MayMoveAt z v p h (Some page) = (h ≡ false) × IsPageOfOwned z p (owns v p) page
 
 abbrev pub MayMove : Stand → (ℕ → Bool) → ℕ → Option FrameView → Type 0
-MayMove a here p page = (o : Open) × (owns a.view p ≡ Some o) × MayMoveAt a.ground a.view p (here p) page
+MayMove a here p page = (o : Open) × (owns a.view p ≡ Some o) × MayMoveAt a.heap a.view p (here p) page
 
 -- a page that is taken is the frame's own, and nothing is handed out for one that is given back
 abbrev pub Gives : Ground → View → ℕ → Option FrameView → Option FrameView → Type 0
@@ -70,4 +70,4 @@ Gives z v p (Some page) result = result ≡ None
 pub record Moved (a : Stand) (here : ℕ → Bool) (p : ℕ) (page result : Option FrameView) (b : Stand) (here' : ℕ → Bool) : Type 0 where
   pub view : b ≡ a
   pub lies : LieAs b.view (upd here p (is_some page)) here'
-  pub gives : Gives a.ground a.view p page result
+  pub gives : Gives a.heap a.view p page result

@@ -9,7 +9,7 @@ use kn_rule::Kind;
 /// A caller that is out polls, and goes in.
 fn goes_in<P: Home, S: Steps<P>>(steps: &mut S, by: u8)
     requires caller { (S.stand steps.old).by ≡ by }
-    requires thread { by < (S.stand steps.old).ground.sizes.threads }
+    requires thread { by < (S.stand steps.old).heap.sizes.threads }
     requires out { (S.stand steps.old).view.position ≡ Out }
     ensures { (S.stand steps.new).view.position ≡ Entering }
 {

@@ -1,5 +1,5 @@
 use Rattle.std.proofs.Common.{◌-◌, arith}
-use Rattle.kn_ranges.proofs.Apart.{apart_at_index}
+use Rattle.kn_base.proofs.Apart.{apart_at_index}
 use Rattle.kn_ranges.proofs.edits.ends_at.Goals as goal
 
 pub end-requires : goal.end-requires

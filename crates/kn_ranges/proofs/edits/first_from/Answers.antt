@@ -4,7 +4,7 @@ use Rattle.std.proofs.lemmas.List.{get_or_default}
 use Rattle.std.proofs.lemmas.Bool.{eqb-true}
 use Rattle.std.proofs.lemmas.List.Sorted.{IsPartitionPoint-from_clause, IsPartitionedBy-ltb}
 use Rattle.kn_base.specs.declared.numbers.Span.{Span}
-use Rattle.kn_ranges.proofs.Order.{begin_from_first, begin_in_order, parted_at}
+use Rattle.kn_base.proofs.Order.{begin_from_first, begin_in_order, parted_at}
 use Rattle.kn_ranges.proofs.edits.first_from.Goals as goal
 use Rattle.kn_ranges.proofs.edits.first_from.Goals.{After-partition_point, then-is_empty-via-then-is_empty, then-is_empty-via-else-is_empty+then-spans-low}
 

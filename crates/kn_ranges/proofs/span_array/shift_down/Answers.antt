@@ -1,5 +1,5 @@
 use Rattle.std.proofs.Common.{◌+◌, ◌-◌, refl, arith}
-use Rattle.kn_ranges.proofs.Slots.{moved_down}
+use Rattle.kn_base.proofs.Slots.{moved_down}
 use Rattle.kn_ranges.proofs.span_array.shift_down.Goals as goal
 
 pub returns : goal.returns

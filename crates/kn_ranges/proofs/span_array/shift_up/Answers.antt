@@ -1,6 +1,6 @@
 use Rattle.std.proofs.Common.{◌+◌, ◌-◌, drop, take, length, arith}
 use Rattle.std.proofs.lemmas.List.{length-drop, length-take-le}
-use Rattle.kn_ranges.proofs.Slots.{moved_up}
+use Rattle.kn_base.proofs.Slots.{moved_up}
 use Rattle.kn_ranges.proofs.span_array.shift_up.Goals as goal
 
 pub returns : goal.returns

@@ -4,7 +4,7 @@ use Rattle.kn_base.specs.declared.numbers.Span.{Span}
 use Rattle.kn_base.specs.SpanLists.{IsFreeListOf}
 use Rattle.kn_base.specs.Spans.{LiesIn}
 use Rattle.kn_ranges.specs.FreeSpans.{FreeSpans}
-use Rattle.kn_ranges.proofs.Apart.{apart_in_frame}
+use Rattle.kn_base.proofs.Apart.{apart_in_frame}
 use Rattle.kn_ranges.proofs.ranges.Ranges.spans.Goals as goal
 
 pub returns-clause-within : goal.returns-clause-within

@@ -8,8 +8,9 @@ use Rattle.kn_base.specs.declared.numbers.Span.{Span}
 use Rattle.kn_base.specs.Spans.{AreApart, end_of}
 use Rattle.kn_base.specs.SpanLists.{IsFreeListOf, first_fit, front_of, spans_from, without}
 use Rattle.kn_ranges.specs.FreeSpans.{FreeSpans}
-use Rattle.kn_ranges.proofs.Apart.{apart_at_index}
-use Rattle.kn_ranges.proofs.Taking.{apart_without, first_fit-none, first_fit-is_none, taken_at, too_short_from}
+use Rattle.kn_base.proofs.Apart.{apart_at_index}
+use Rattle.kn_base.proofs.Without.{apart_without}
+use Rattle.kn_ranges.proofs.Taking.{first_fit-none, first_fit-is_none, taken_at, too_short_from}
 use Rattle.kn_ranges.proofs.Words.{apart_after_without, apart_kept_without}
 use Rattle.kn_ranges.proofs.ranges.Ranges.take_first_from.Goals as goal
 use Rattle.kn_ranges.proofs.ranges.Ranges.take_first_from.Goals.{Then-place-spans, After-cut_front}

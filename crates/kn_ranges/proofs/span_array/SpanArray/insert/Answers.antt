@@ -2,7 +2,7 @@ use Rattle.std.proofs.Common.{◌+◌, ◌≤◌, drop, length, ap, ◌∙◌, a
 use Rattle.std.specs.List.{insert}
 use Rattle.std.proofs.lemmas.List.{length-drop}
 use Rattle.kn_ranges.specs.FreeSpans.{FreeSpans}
-use Rattle.kn_ranges.proofs.Slots.{drop-insert}
+use Rattle.kn_base.proofs.Slots.{drop-insert}
 use Rattle.kn_ranges.proofs.span_array.SpanArray.insert.Goals as goal
 
 pub returns-else-is_err : goal.returns-else-is_err

@@ -1,7 +1,7 @@
 use Rattle.std.proofs.Common.{◌+◌, ◌<◌, drop, length, ap, ◌∙◌, arith}
 use Rattle.std.proofs.lemmas.List.{length-drop}
 use Rattle.kn_ranges.specs.FreeSpans.{FreeSpans}
-use Rattle.kn_ranges.proofs.Slots.{drop-remove}
+use Rattle.kn_base.proofs.Slots.{drop-remove}
 use Rattle.kn_ranges.proofs.span_array.SpanArray.remove.Goals as goal
 
 pub returns-else-place-len : goal.returns-else-place-len

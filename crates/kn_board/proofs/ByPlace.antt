@@ -1,0 +1,35 @@
+-- Outcomes by the parts of a place and of an action.
+use Rattle.std.proofs.Common.{◌≡◌, ℕ, Option, sym, ap, ◌∙◌, subst}
+use Rattle.kn_base.specs.declared.places.Place.{Place}
+use Rattle.kn_base.specs.declared.places.Place.TheVariants.{State, Local, Side}
+use Rattle.kn_graph.specs.declared.entries.Entry.{Entry}
+use Rattle.kn_graph.specs.Ground.{Ground}
+use Rattle.kn_rule.specs.declared.steps.Action.{Action}
+use Rattle.kn_rule.specs.declared.steps.Action.TheVariants.{Stores}
+use Rattle.kn_rule.specs.Steps.{Found, address_in, local_in, word_stored}
+use Rattle.kn_rule.specs.Outcomes.{went, write_at, born_at}
+use Rattle.kn_view.specs.Parts.{Part, Makes}
+use Rattle.kn_board.specs.Asks.{AsksState, AsksWrite, AsksBirth}
+
+module _ (z : Ground) (by : ℕ) (old new : Part) (said : Option Entry) (p : Place) (a : Action) (f : Found) where
+  pub went_there : AsksState z by old p a f.word → (w : ℕ) → w ≡ word_stored a →
+      Makes z old new said (λ v. went z by v (State by) (Stores w) f) → Makes z old new said (λ v. went z by v p a f)
+  went_there asks w e h =
+      let act : Stores w ≡ a = ap Stores (e ∙ ap word_stored asks.act) ∙ sym asks.act in
+      subst (λ q. Makes z old new said (λ v. went z by v q a f)) (sym asks.place)
+      (subst (λ b. Makes z old new said (λ v. went z by v (State by) b f)) act h)
+
+  pub written_there : AsksWrite z by old p a f.word → (r w : ℕ) → r ≡ local_in p → w ≡ word_stored a →
+      Makes z old new said (λ v. write_at z by v (Local by r) (Stores w) f old.position) →
+      Makes z old new said (λ v. write_at z by v p a f old.position)
+  written_there asks r w er ew h =
+      let act : Stores w ≡ a = ap Stores (ew ∙ ap word_stored asks.act) ∙ sym asks.act in
+      let place : Local by r ≡ p = ap (Local by) (er ∙ ap local_in asks.place) ∙ sym asks.place in
+      subst (λ q. Makes z old new said (λ v. write_at z by v q a f old.position)) place
+      (subst (λ b. Makes z old new said (λ v. write_at z by v (Local by r) b f old.position)) act h)
+
+  pub born_there : AsksBirth z by old p a f.word → (b : ℕ) → b ≡ address_in p →
+      Makes z old new said (λ v. born_at z by v (Side b) a f old.position) → Makes z old new said (λ v. born_at z by v p a f old.position)
+  born_there asks b e h =
+      let place : Side b ≡ p = ap Side (e ∙ ap address_in asks.place) ∙ sym asks.place in
+      subst (λ q. Makes z old new said (λ v. born_at z by v q a f old.position)) place h

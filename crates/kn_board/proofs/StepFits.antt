@@ -1,0 +1,98 @@
+-- What is left to show of each kind of step.
+use Rattle.std.proofs.Common.{◌≡◌, ℕ, ◌+◌, ◌*◌, ◌<◌, Bool, List, Option, Some, refl, sym, ap, ◌∙◌, subst}
+use Rattle.std.proofs.Common.{slice_get}
+use Rattle.kn_base.specs.declared.places.Place.{Place}
+use Rattle.kn_base.specs.declared.places.Place.TheVariants.{Phase, State as StateOf, Local, Global, Frame, Side, Body}
+use Rattle.kn_base.proofs.Updates.{upd_same}
+use Rattle.kn_graph.specs.Ground.{Ground}
+use Rattle.kn_rule.specs.declared.steps.Kind.{Kind}
+use Rattle.kn_rule.specs.declared.steps.Kind.TheVariants.{K1, K2, K3, K4, K5, K6}
+use Rattle.kn_rule.specs.declared.steps.Kind.TheVariants.{K7, K8, K9}
+use Rattle.kn_rule.specs.declared.steps.Action.{Action}
+use Rattle.kn_rule.specs.declared.steps.Action.TheVariants.{Loads, LoadsFor, Stores}
+use Rattle.kn_rule.specs.Decoding.{frame_of}
+use Rattle.kn_rule.specs.Places.{put}
+use Rattle.kn_rule.specs.Views.{View, State, Open, flattened}
+use Rattle.kn_rule.specs.Steps.{Found, callers, epoch_in}
+use Rattle.kn_rule.specs.Allowed.{MayPoll, MayStoreState, MayWrite, MayLoadBody, MaySet, MayReadGlobal, MaySetGlobal, MayBirth, MayLook}
+use Rattle.kn_board.specs.World.{World, slot_at, view_at, IsSlotOf, StandsFor, lies_at}
+use Rattle.kn_board.proofs.OwnedKept.{poll_keeps, write_keeps, load_keeps, store_keeps, global_keeps, born_keeps, look_keeps}
+use Rattle.kn_board.proofs.Sounds.{Fits}
+
+module _ (w : World) (s : State) (h : StandsFor w s) (by : ℕ) (less : by < callers w.heap.sizes) (f : Found) where
+  abbrev z : Ground
+  z = w.heap
+
+  abbrev x : View
+  x = view_at w by
+
+  abbrev here : ℕ → Bool
+  here = lies_at w
+
+  abbrev FitsAt : Kind → Place → Action → Type 0
+  FitsAt k p a = Fits w s by f k p a
+
+  -- what the caller owns stays
+  same_hands : (l : List (Option Open)) → l ≡ x.owned → (j : ℕ) (o : Open) → flattened (slice_get l j) ≡ Some o →
+      IsSlotOf z.sizes j o (slot_at w j)
+  same_hands l e j o has = h.in_hands by j o less (ap (λ m. flattened (slice_get m j)) (sym e) ∙ has)
+
+  pub poll_fits : (p : Place) (a : Action) → MayPoll z by x here p a → FitsAt K1 p a
+  poll_fits p a m =
+      subst (λ q. FitsAt K1 q a) (sym m.place) (subst (λ b. FitsAt K1 Phase b) (sym m.act) (record {
+        takes = tt;
+        pages = h.pages_are;
+        hands = same_hands _ (poll_keeps z by x Phase (LoadsFor m.next) f x.position _ _);
+      }))
+
+  pub state_fits : (p : Place) (a : Action) → MayStoreState z by x here p a → FitsAt K2 p a
+  state_fits p a m =
+      subst (λ q. FitsAt K2 q a) (sym m.place) (subst (λ b. FitsAt K2 (StateOf by) b) (sym m.word)
+      (record { takes = tt; pages = h.pages_are; hands = same_hands _ refl }))
+
+  pub local_fits : (p : Place) (a : Action) → MayWrite z by x here p a → FitsAt K3 p a
+  local_fits p a m =
+      subst (λ q. FitsAt K3 q a) (sym m.place) (subst (λ b. FitsAt K3 (Local by m.local) b) (sym m.word)
+      (record { takes = tt; pages = h.pages_are; hands = same_hands _ (write_keeps z by x (Local by m.local) (Stores m.value) f x.position) }))
+
+  pub body_fits : (p : Place) (a : Action) → MayLoadBody z by x here p a → FitsAt K4 p a
+  body_fits p a m =
+      subst (λ q. FitsAt K4 q a) (sym m.place) (subst (λ b. FitsAt K4 (Body m.address) b) (sym m.act)
+      (record { takes = tt; pages = h.pages_are; hands = same_hands _ (load_keeps z by x (Body m.address) Loads f x.position x.header) }))
+
+  pub field_fits : (p : Place) (a : Action) → MaySet z by x here p a → FitsAt K5 p a
+  field_fits p a m =
+      subst (λ q. FitsAt K5 q a) (sym m.place) (subst (λ b. FitsAt K5 (Body m.address) b) (sym m.word)
+      (record { takes = tt; pages = h.pages_are; hands = same_hands _ (store_keeps z by x (Body m.address) (Stores m.value) f x.position) }))
+
+  pub global_read_fits : (p : Place) (a : Action) → MayReadGlobal z by x here p a → FitsAt K6 p a
+  global_read_fits p a m =
+      subst (λ q. FitsAt K6 q a) (sym m.place) (subst (λ b. FitsAt K6 (Global m.global) b) (sym m.act)
+      (record { takes = tt; pages = h.pages_are; hands = same_hands _ (global_keeps z by x (Global m.global) Loads f x.position) }))
+
+  pub global_fits : (p : Place) (a : Action) → MaySetGlobal z by x here p a → FitsAt K7 p a
+  global_fits p a m =
+      subst (λ q. FitsAt K7 q a) (sym m.place) (subst (λ b. FitsAt K7 (Global m.global) b) (sym m.word)
+      (record { takes = tt; pages = h.pages_are; hands = same_hands _ (store_keeps z by x (Global m.global) (Stores m.value) f x.position) }))
+
+  pub birth_fits : (p : Place) (a : Action) → MayBirth z by x here p a → FitsAt K8 p a
+  birth_fits p a m =
+      subst (λ q. FitsAt K8 q a) (sym m.place) (subst (λ b. FitsAt K8 (Side m.cell.span.start) b) (sym m.word)
+      (record {
+        takes = tt;
+        pages = h.pages_are;
+        hands = same_hands _ (born_keeps z by x (Side m.cell.span.start) (Stores (4 * epoch_in x + 3)) f x.position);
+      }))
+
+  -- a frame's word that is stored as it was found
+  pub same_frame : (k j : ℕ) → s.word (Frame k) ≡ f.word → put s.word (Frame k) f.word (Frame j) ≡ s.word (Frame j)
+  same_frame k j e = ap (λ (g : ℕ → ℕ). g j) (upd_same (λ i. s.word (Frame i)) k f.word (sym e))
+
+  pub look_fits : (p : Place) (a : Action) → MayLook z by x here p a → s.word p ≡ f.word → FitsAt K9 p a
+  look_fits p a m =
+      subst (λ q. s.word q ≡ f.word → FitsAt K9 q a) (sym m.place) (subst (λ b. s.word (Frame m.frame) ≡ f.word → FitsAt K9 (Frame m.frame) b)
+      (sym m.act) (λ is. record {
+        takes = tt;
+        pages = λ j l ne. h.pages_are j l (λ e. ne (ap (λ v. (frame_of v).kind) (same_frame m.frame j is) ∙ e));
+        hands = same_hands _ (look_keeps z by x (Frame m.frame) Loads f x.position);
+      }))

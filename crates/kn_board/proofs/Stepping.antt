@@ -1,0 +1,246 @@
+-- One step of the board, by what is stored.
+use Rattle.std.proofs.Common.{◌≡◌, ◌≢◌, ℕ, ◌+◌, ◌<◌, ◌≤◌, Bool, true, List, [], ◌∷◌, length, map, Option, Some, None, is_some}
+use Rattle.std.proofs.Common.{refl, sym, ap, ◌∙◌, subst}
+use Rattle.std.proofs.Common.{slice_set, arith, get_or-set_same, get_or-set_other, length-append}
+use Rattle.kn_base.specs.declared.places.Place.{Place}
+use Rattle.kn_base.specs.declared.limits.TheConstants.{MOST_CALLS}
+use Rattle.kn_base.specs.Pages.{FrameView}
+use Rattle.kn_base.proofs.Updates.{split_at}
+use Rattle.kn_graph.specs.declared.entries.Entry.{Entry}
+use Rattle.kn_graph.specs.Ground.{Ground}
+use Rattle.kn_graph.specs.Logs.{log_of}
+use Rattle.kn_rule.specs.declared.steps.Kind.{Kind}
+use Rattle.kn_rule.specs.declared.steps.Kind.TheVariants.{K1, K2, K3, K4, K5, K6}
+use Rattle.kn_rule.specs.declared.steps.Kind.TheVariants.{K7, K8, K9, K10, K11, K12}
+use Rattle.kn_rule.specs.declared.steps.Action.{Action}
+use Rattle.kn_rule.specs.Places.{Within, index}
+use Rattle.kn_rule.specs.Views.{View, State}
+use Rattle.kn_rule.specs.Steps.{Step, Found, Outcome, does, found, callers, frame_in, logged, more, word_wanted, word_after}
+use Rattle.kn_rule.specs.Outcomes.{outcome}
+use Rattle.kn_rule.specs.Allowed.{MayBe, MayMake}
+use Rattle.kn_rule.specs.Moves.{view_after}
+use Rattle.kn_rule.specs.Rule.{Rule, fresh}
+use Rattle.kn_keep_heap.proofs.Withins.{steps_lie_within}
+use Rattle.kn_steps.specs.Made.{Made}
+use Rattle.kn_view.specs.Parts.{Part, said_list, view_with}
+use Rattle.kn_view.specs.Words.{MayLeave}
+use Rattle.kn_holds.specs.Holds.{Hold}
+use Rattle.kn_board.specs.World.{World, world, word_at, slot_at, view_at, lies_at, IsPageFound, StandsFor, Sound, StepsTo, world_after, stand_at}
+use Rattle.kn_board.specs.Parts.{own_of, view_of, views_from, world_of}
+use Rattle.kn_board.specs.Room.{AreCallsOf, IsAtMostACall}
+use Rattle.kn_board.specs.Stored.{IsWide, Kept, part_at}
+use Rattle.kn_board.specs.Asks.{Asks}
+use Rattle.kn_board.specs.Noted.{Noted}
+use Rattle.kn_board.proofs.AsksOf.{asks_by}
+use Rattle.kn_board.proofs.Leavings.{Leaves, outcome_leaves}
+use Rattle.kn_board.proofs.Room.{histories_fit}
+use Rattle.kn_board.proofs.StepMade.{step_made}
+use Rattle.kn_board.proofs.StepSound.{step_sound}
+use Rattle.kn_board.proofs.ViewsAt.{log_mine, log_other, long_from, view_stored, views_set}
+
+-- the page in a slot, or some page
+abbrev page_or : Option FrameView → FrameView
+page_or None = record { frame = record { start = 0; len = 0 }; class = 0; free = []; cursor = 0 }
+page_or (Some page) = page
+
+lies_or : (slot : Option FrameView) → is_some slot ≡ true → slot ≡ Some (page_or slot)
+lies_or None e = cc
+lies_or (Some page) e = refl
+
+-- one call more
+calls_more : (n c : ℕ) (h : List Entry) (said : Option Entry) → c < n → AreCallsOf n h → IsAtMostACall c (said_list said) →
+    AreCallsOf n (more h (said_list said))
+calls_more n c h None l a m = a
+calls_more n c [] (Some e) l a m = ((subst (λ i. i < n) (sym m.0) l, m.1), tt)
+calls_more n c (x ∷ h) (Some e) l a m = (a.0, calls_more n c h (Some e) l a.1 m)
+
+longer : (h : List Entry) (said : Option Entry) → said ≢ None → length (more h (said_list said)) ≡ length h + 1
+longer h None n = absurd (n refl)
+longer h (Some e) n = length-append h (e ∷ [])
+
+module _ (z : Ground) (by : ℕ) (v : View) (here : ℕ → Bool) (p : Place) (a : Action) where
+  -- a step of a built kind is a mutator's
+  thread_of : (k : Kind) → MayBe z by v here k p a → by < z.sizes.threads
+  thread_of K1 m = m.thread
+  thread_of K2 m = m.thread
+  thread_of K3 m = m.thread
+  thread_of K4 m = m.thread
+  thread_of K5 m = m.thread
+  thread_of K6 m = m.thread
+  thread_of K7 m = m.thread
+  thread_of K8 m = m.thread
+  thread_of K9 m = m.search.thread
+  thread_of K10 m = m.search.thread
+  thread_of K11 m = m.thread
+  thread_of K12 m = m.thread
+  thread_of _ m = absurd m
+
+  -- it leaves a word
+  leaves_word : (n : ℕ) (k : Kind) → MayBe z by v here k p a → MayLeave a n
+  leaves_word n K1 m = subst (λ a. MayLeave a n) (sym m.act) tt
+  leaves_word n K2 m = subst (λ a. MayLeave a n) (sym m.word) tt
+  leaves_word n K3 m = subst (λ a. MayLeave a n) (sym m.word) tt
+  leaves_word n K4 m = subst (λ a. MayLeave a n) (sym m.act) tt
+  leaves_word n K5 m = subst (λ a. MayLeave a n) (sym m.word) tt
+  leaves_word n K6 m = subst (λ a. MayLeave a n) (sym m.act) tt
+  leaves_word n K7 m = subst (λ a. MayLeave a n) (sym m.word) tt
+  leaves_word n K8 m = subst (λ a. MayLeave a n) (sym m.word) tt
+  leaves_word n K9 m = subst (λ a. MayLeave a n) (sym m.act) tt
+  leaves_word n K10 m = subst (λ a. MayLeave a n) (sym m.word) tt
+  leaves_word n K11 m = subst (λ a. MayLeave a n) (sym m.word) tt
+  leaves_word n K12 m = subst (λ a. MayLeave a n) (sym m.word) tt
+  leaves_word n _ m = absurd m
+
+  -- and finds the page that it takes
+  page_found : (n : ℕ) (slot : ℕ → Option FrameView) → ((j : ℕ) → here j ≡ is_some (slot j)) → (part : Part) (holds : List Hold) (k : Kind) →
+      MayBe z by v here k p a → Asks z by part p a n holds (slot (frame_in p)) k →
+      IsPageFound k (word_wanted a) (found n (page_or (slot (frame_in p)))) (slot (frame_in p))
+  page_found n slot e part holds K10 m asks = λ won.
+      let l = asks.lies (won ∙ ap word_wanted asks.act) in lies_or (slot (frame_in p)) (ap is_some l.1)
+  page_found n slot e part holds K11 m asks =
+      lies_or (slot (frame_in p)) (ap (λ q. is_some (slot (frame_in q))) m.place ∙ (sym (e m.frame) ∙ m.lies))
+  page_found n slot e part holds _ m asks = tt
+
+module _ (z : Ground) (words : List ℕ) (slots : List (Option FrameView)) (known : List Part) (holds : List Hold) (history : List Entry)
+    (room : ℕ) where
+  abbrev w : World
+  w = world_of z words slots known holds history
+
+  module _ (sound : Sound (world_of z words slots known holds history)) (kept : Kept z slots known holds history room) (by : ℕ)
+      (less : by < callers z.sizes) (k : Kind) (p : Place) (a : Action)
+      (may : MayMake z by (view_at (world_of z words slots known holds history) by) (lies_at (world_of z words slots known holds history))
+      (does k p a)) where
+    abbrev s : State
+    s = sound.1.0
+
+    rule : Rule z s
+    rule = sound.1.1
+
+    stands : StandsFor w s
+    stands = sound.1.2
+
+    abbrev part : Part
+    part = part_at z known by
+
+    pub near_by : by < length known
+    near_by = let e = stands.views in let l = long_from z 0 known holds history in omega arith
+
+    stored : (c : ℕ) → c < callers z.sizes → view_at w c ≡ view_of z c (part_at z known c) holds history
+    stored c l = let e = stands.views in let n = long_from z 0 known holds history in view_stored z known holds history c (fresh z) (omega arith)
+
+    abbrev v : View
+    v = view_of z by part holds history
+
+    view_is : view_at w by ≡ v
+    view_is = stored by less
+
+    may' : MayBe z by v (lies_at w) k p a
+    may' = subst (λ v. MayBe z by v (lies_at w) k p a) view_is may
+
+    abbrev n : ℕ
+    n = word_at w p
+
+    is : s.caller by ≡ v
+    is = sym (stands.views_are by less) ∙ view_is
+
+    pub within : Within z.sizes p
+    within = steps_lie_within z s by (lies_at w) (does k p a) sound.0 rule (subst (λ v. MayBe z by v (lies_at w) k p a) (sym is) may')
+
+    pub leaves : MayLeave a n
+    leaves = leaves_word z by v (lies_at w) p a n k may'
+
+    pub wide : IsWide z.sizes part
+    wide = kept.wide by less
+
+    pub asks : Asks z by part p a n holds (slot_at w (frame_in p)) k
+    asks =
+        asks_by z sound.0 s rule by (lies_at w) part holds (log_of by history) is p a n (sym (stands.words_are p within)) kept.frames (slot_at w)
+        stands.pages_are (λ c l. ap (λ (v : View). v.owned) (sym (stands.views_are c l) ∙ stored c l)) less k may'
+
+    abbrev pub page : FrameView
+    page = page_or (slot_at w (frame_in p))
+
+    pub lies : IsPageFound k (word_wanted a) (found n page) (slot_at w (frame_in p))
+    lies = page_found z by v (lies_at w) p a n (slot_at w) (λ j. refl) part holds k may' asks
+
+    abbrev f : Found
+    f = found n page
+
+    abbrev d : Step
+    d = does k p a
+
+    module _ (part' : Part) (holds' : List Hold) (said : Option Entry)
+        (noted : Noted z by part part' holds holds' said (λ v. outcome z by v p a f k)) where
+      abbrev h' : List Entry
+      h' = more history (said_list said)
+
+      mine : (record { view = view_with z part' (map (own_of by) holds') (log_of by history); says = said_list said }) ≡ outcome z by v p a f k
+      mine = noted.mine (log_of by history)
+
+      left : Leaves z by v p a f (outcome z by v p a f k)
+      left = outcome_leaves z by v p a f wide k
+
+      said_by : IsAtMostACall by (said_list said)
+      said_by = subst (λ (o : Outcome). IsAtMostACall by o.says) (sym mine) left.1
+
+      after_is : view_of z by part' holds' h' ≡ view_after z by (view_at w by) d f
+      after_is =
+          ap (view_with z part' (map (own_of by) holds')) (log_mine by history said said_by)
+          ∙ (ap logged mine ∙ ap (λ v. view_after z by v d f) (sym view_is))
+
+      views_are : views_from z 0 (slice_set known by part') holds' h' ≡ slice_set w.views by (view_after z by (view_at w by) d f)
+      views_are =
+          let e = stands.views in let l = long_from z 0 known holds history in
+          views_set z holds holds' history h' known by part' near_by
+          (λ c a ne. (noted.others c (omega arith) ne, log_other by c history said said_by ne)) ∙ ap (slice_set w.views by) after_is
+
+      history_is : h' ≡ more history (outcome z by (view_at w by) p a f k).says
+      history_is = ap (λ (o : Outcome). more history o.says) mine ∙ ap (λ v. more history (outcome z by v p a f k).says) (sym view_is)
+
+      calls_after : AreCallsOf z.sizes.threads h'
+      calls_after = calls_more z.sizes.threads by history said (thread_of z by v (lies_at w) p a k may') kept.calls said_by
+
+      sound_after : Sound (world_after w by d f)
+      sound_after = step_sound w sound.0 s rule stands by less f d may refl lies
+
+      -- there is room for what is said
+      pub room_for : said ≢ None → length history < room
+      room_for some =
+          let after = sound_after.1 in
+          let same : after.0.history ≡ h' = sym after.2.history_is ∙ sym history_is in
+          let short : length after.0.history ≤ MOST_CALLS =
+          histories_fit z sound.0 after.0 after.1 (subst (λ h. AreCallsOf z.sizes.threads h) (sym same) calls_after) in
+          let l : length after.0.history ≡ length h' = ap length same in
+          let m = longer history said some in let most = kept.history_room in omega arith
+
+      wide_after : IsWide z.sizes part'
+      wide_after =
+          (ap (λ (o : Outcome). length o.view.seen) mine ∙ left.0.0, ap (λ (o : Outcome). length o.view.refused) mine ∙ left.0.1)
+
+      pub kept_after : (room' : ℕ) → room ≤ room' → Kept z slots (slice_set known by part') holds' h' room'
+      kept_after room' l = record {
+        wide = λ c near. split_at (λ c. c < callers z.sizes → IsWide z.sizes (part_at z (slice_set known by part') c)) by
+            (λ _. subst (IsWide z.sizes) (sym (get_or-set_same known by part' _ near_by)) wide_after) c
+            (λ ne near. subst (IsWide z.sizes) (sym (get_or-set_other known by c part' _ (λ e. ne (sym e)))) (kept.wide c near)) near;
+        frames = noted.fits;
+        pages = kept.pages;
+        calls = calls_after;
+        history_room = let m = kept.history_room in omega arith;
+      }
+
+      module _ (i new : ℕ) (ei : i ≡ index z.sizes p) (en : new ≡ word_after a n) where
+        world_is : world_of z (slice_set words i new) slots (slice_set known by part') holds' h' ≡ world_after w by d f
+        world_is = λ t. world z (slice_set words (ei t) (en t)) slots (views_are t) (history_is t)
+
+        pub sound_now : Sound (world_of z (slice_set words i new) slots (slice_set known by part') holds' h')
+        sound_now = subst Sound (sym world_is) sound_after
+
+        pub steps_now : StepsTo w by d f (world_of z (slice_set words i new) slots (slice_set known by part') holds' h')
+        steps_now = (world_is, refl, lies)
+
+        pub made_now : Made (stand_at by w) (lies_at w) d f
+            (stand_at by (world_of z (slice_set words i new) slots (slice_set known by part') holds' h'))
+            (lies_at (world_of z (slice_set words i new) slots (slice_set known by part') holds' h'))
+        made_now =
+            subst (λ q. Made (stand_at by w) (lies_at w) d f (stand_at by q) (lies_at q)) (sym world_is)
+            (step_made w sound.0 s rule stands by less f d may refl lies)

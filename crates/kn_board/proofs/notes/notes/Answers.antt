@@ -1,0 +1,52 @@
+use Rattle.std.proofs.Common.{None, map, option_map, slice_get, subst}
+use Rattle.kn_rule.specs.declared.steps.Kind.TheVariants.{K2, K3, K5, K7, K10, K11, K12}
+use Rattle.kn_rule.specs.Steps.{found, frame_in, word_wanted}
+use Rattle.kn_rule.specs.Views.{flattened}
+use Rattle.kn_view.specs.Parts.{ground_of}
+use Rattle.kn_board.specs.World.{IsPageFound}
+use Rattle.kn_board.proofs.Holdings.{noted_of, noted_plain}
+use Rattle.kn_board.proofs.notes.notes.Goals as goal
+
+pub returns-in-K2 : goal.returns-in-K2
+returns-in-K2 g c = λ page lies.
+    let s = c.args.step in
+    noted_plain (ground_of c.args.sizes.now c.args.layouts.now) s.by c.args.known.now c.goes.new.known c.args.holds.now.items None
+    s.place s.act (found s.word page) c.args.kind K2 c.in-K2.is c.requires.fits (c.goes.ensures page)
+
+pub returns-in-K3 : goal.returns-in-K3
+returns-in-K3 g c = λ page lies.
+    let s = c.args.step in
+    noted_plain (ground_of c.args.sizes.now c.args.layouts.now) s.by c.args.known.now c.writes.new.known c.args.holds.now.items c.writes.result
+    s.place s.act (found s.word page) c.args.kind K3 c.in-K3.is c.requires.fits (c.writes.ensures page)
+
+pub returns-in-K5 : goal.returns-in-K5
+returns-in-K5 g c = λ page lies.
+    let s = c.args.step in
+    noted_plain (ground_of c.args.sizes.now c.args.layouts.now) s.by c.args.known.now c.stores.new.known c.args.holds.now.items c.stores.result
+    s.place s.act (found s.word page) c.args.kind K5 c.in-K5.is c.requires.fits (c.stores.ensures.field page)
+
+pub returns-in-K7 : goal.returns-in-K7
+returns-in-K7 g c = λ page lies.
+    let s = c.args.step in
+    noted_plain (ground_of c.args.sizes.now c.args.layouts.now) s.by c.args.known.now c.stores-in-K7.new.known c.args.holds.now.items
+    c.stores-in-K7.result s.place s.act (found s.word page) c.args.kind K7 c.in-K7.is c.requires.fits (c.stores-in-K7.ensures.global page)
+
+pub returns-in-K10 : goal.returns-in-K10
+returns-in-K10 g c = λ page lies.
+    let s = c.args.step in
+    noted_of (ground_of c.args.sizes.now c.args.layouts.now) s.by c.args.known.now c.claims.new.known c.args.holds.now.items c.claims.result
+    s.place s.act (found s.word page) c.args.kind K10 c.in-K10.is c.claims.new.holds.items
+    (c.claims.ensures page (subst (λ k. IsPageFound k (word_wanted s.act) (found s.word page)
+    (flattened (slice_get (map (option_map g.P.FramePage.page) c.args.slots.now) (frame_in s.place)))) c.in-K10.is lies))
+
+pub returns-in-K11 : goal.returns-in-K11
+returns-in-K11 g c = λ page lies.
+    let s = c.args.step in
+    noted_of (ground_of c.args.sizes.now c.args.layouts.now) s.by c.args.known.now c.puts_home.new.known c.args.holds.now.items c.puts_home.result
+    s.place s.act (found s.word page) c.args.kind K11 c.in-K11.is c.puts_home.new.holds.items (c.puts_home.ensures page)
+
+pub returns-in-K12 : goal.returns-in-K12
+returns-in-K12 g c = λ page lies.
+    let s = c.args.step in
+    noted_of (ground_of c.args.sizes.now c.args.layouts.now) s.by c.args.known.now c.clears.new.known c.args.holds.now.items None
+    s.place s.act (found s.word page) c.args.kind K12 c.in-K12.is c.clears.new.holds.items (c.clears.ensures page)

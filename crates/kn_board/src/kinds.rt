@@ -1,0 +1,111 @@
+//! What a step of each kind makes of what is stored of its caller's view.
+ghost use Rattle.std.specs.Prelude.{◌≡◌, ℕ};
+ghost use Rattle.kn_base.specs.Pages.{FrameView};
+ghost use Rattle.kn_graph.specs.Ground.{IsGoodGround};
+ghost use Rattle.kn_rule.specs.declared.steps.Kind.TheVariants.{K1, K2, K3, K4, K5, K6, K7, K8, K9};
+ghost use Rattle.kn_rule.specs.Outcomes.{outcome};
+ghost use Rattle.kn_rule.specs.Steps.{found};
+ghost use Rattle.kn_view.specs.Parts.{IsReadable, Makes, ground_of};
+ghost use Rattle.kn_board.specs.Asks.{AsksBirth, AsksFrame, AsksGlobal, AsksPoll, AsksState, AsksWrite};
+ghost use Rattle.kn_board.specs.Stored.{IsWide};
+
+use crate::step::{StepFound, address_in, frame_in, local_in, next_of};
+use kn_base::Sizes;
+use kn_graph::Entry;
+use kn_layout::Layout;
+use kn_view::{Known, stored_by};
+
+/// A poll.
+#[inline(always)]
+pub fn polls(sizes: &Sizes, layouts: &[Layout], known: &mut Known, step: StepFound) -> Option<Entry>
+    requires good { IsGoodGround (ground_of sizes.now layouts.now) }
+    requires wide { IsWide sizes.now known.old }
+    requires asks { AsksPoll (ground_of sizes.now layouts.now) step.by known.old step.place step.act step.word }
+    ensures { let z = ground_of sizes.now layouts.now in (page : FrameView) →
+        Makes z known.old known.new result (λ v. outcome z step.by v step.place step.act (found step.word page) K1) }
+{
+    known.polls(sizes, layouts, step.by, step.word, next_of(step.act))
+}
+
+/// A store of the state.
+#[inline(always)]
+pub fn goes(sizes: &Sizes, layouts: &[Layout], known: &mut Known, step: StepFound)
+    requires { AsksState (ground_of sizes.now layouts.now) step.by known.old step.place step.act step.word }
+    ensures { let z = ground_of sizes.now layouts.now in (page : FrameView) →
+        Makes z known.old known.new None (λ v. outcome z step.by v step.place step.act (found step.word page) K2) }
+{
+    known.stores_state(stored_by(step.act));
+}
+
+/// A store of a local.
+#[inline(always)]
+pub fn writes(
+    sizes: &Sizes,
+    layouts: &[Layout],
+    known: &mut Known,
+    step: StepFound,
+) -> Option<Entry>
+    requires { AsksWrite (ground_of sizes.now layouts.now) step.by known.old step.place step.act step.word }
+    ensures { let z = ground_of sizes.now layouts.now in (page : FrameView) →
+        Makes z known.old known.new result (λ v. outcome z step.by v step.place step.act (found step.word page) K3) }
+{
+    known.writes_local(step.by, local_in(step.place), stored_by(step.act) as u32)
+}
+
+/// A load of a header or of a field.
+#[inline(always)]
+pub fn loads(sizes: &Sizes, layouts: &[Layout], known: &mut Known, step: StepFound) -> Option<Entry>
+    requires { IsReadable known.old step.word }
+    ensures { let z = ground_of sizes.now layouts.now in (page : FrameView) →
+        Makes z known.old known.new result (λ v. outcome z step.by v step.place step.act (found step.word page) K4) }
+{
+    known.loads_body(layouts, step.by, step.word)
+}
+
+/// A store of a field or of a global.
+#[inline(always)]
+pub fn stores(
+    sizes: &Sizes,
+    layouts: &[Layout],
+    known: &mut Known,
+    step: StepFound,
+) -> Option<Entry>
+    ensures field { let z = ground_of sizes.now layouts.now in (page : FrameView) →
+        Makes z known.old known.new result (λ v. outcome z step.by v step.place step.act (found step.word page) K5) }
+    ensures global { let z = ground_of sizes.now layouts.now in (page : FrameView) →
+        Makes z known.old known.new result (λ v. outcome z step.by v step.place step.act (found step.word page) K7) }
+{
+    known.stores_word(step.by)
+}
+
+/// A load of a global.
+#[inline(always)]
+pub fn reads(sizes: &Sizes, layouts: &[Layout], known: &mut Known, step: StepFound) -> Option<Entry>
+    requires { AsksGlobal (ground_of sizes.now layouts.now) step.by known.old step.place step.act step.word }
+    ensures { let z = ground_of sizes.now layouts.now in (page : FrameView) →
+        Makes z known.old known.new result (λ v. outcome z step.by v step.place step.act (found step.word page) K6) }
+{
+    known.loads_global(step.by, step.word as u32)
+}
+
+/// A birth.
+#[inline(always)]
+pub fn bears(sizes: &Sizes, layouts: &[Layout], known: &mut Known, step: StepFound) -> Option<Entry>
+    requires { AsksBirth (ground_of sizes.now layouts.now) step.by known.old step.place step.act step.word }
+    ensures { let z = ground_of sizes.now layouts.now in (page : FrameView) →
+        Makes z known.old known.new result (λ v. outcome z step.by v step.place step.act (found step.word page) K8) }
+{
+    known.makes_object(step.by, address_in(step.place))
+}
+
+/// A look at a frame.
+#[inline(always)]
+pub fn looks(sizes: &Sizes, layouts: &[Layout], known: &mut Known, step: StepFound) -> Option<Entry>
+    requires good { IsGoodGround (ground_of sizes.now layouts.now) }
+    requires wide { IsWide sizes.now known.old }
+    requires asks { AsksFrame (ground_of sizes.now layouts.now) step.by known.old step.place step.act step.word }
+    ensures { let z = ground_of sizes.now layouts.now in (page : FrameView) →
+        Makes z known.old known.new result (λ v. outcome z step.by v step.place step.act (found step.word page) K9) }
+{
+    known.looks_at(sizes, layouts, step.by, frame_in(step.place), step.word)
+}

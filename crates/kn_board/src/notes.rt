@@ -1,0 +1,68 @@
+//! What a step makes of what is stored of the views.
+ghost use Rattle.std.specs.Prelude.{◌≡◌, map, option_map, slice_get};
+ghost use Rattle.kn_base.specs.Pages.{FrameView};
+ghost use Rattle.kn_graph.specs.Ground.{IsGoodGround};
+ghost use Rattle.kn_rule.specs.Outcomes.{outcome};
+ghost use Rattle.kn_rule.specs.Steps.{found, frame_in, word_wanted};
+ghost use Rattle.kn_rule.specs.Views.{flattened};
+ghost use Rattle.kn_view.specs.Parts.{ground_of};
+ghost use Rattle.kn_board.specs.Asks.{Asks};
+ghost use Rattle.kn_board.specs.Noted.{Noted};
+ghost use Rattle.kn_board.specs.Stored.{HoldsFit, IsWide, PagesFit};
+ghost use Rattle.kn_board.specs.World.{IsPageFound};
+
+use crate::frames::{claims, clears, puts_home};
+use crate::kinds::{bears, goes, loads, looks, polls, reads, stores, writes};
+use crate::step::StepFound;
+use kn_base::{FramePage, Sizes};
+use kn_graph::Entry;
+use kn_holds::FrameHold;
+use kn_layout::Layout;
+use kn_rule::Kind;
+use kn_view::Known;
+
+/// What a step of a kind makes of what is stored of its caller's view and of frames, and what it says.
+#[inline(always)]
+pub fn notes<P: FramePage>(
+    sizes: &Sizes,
+    layouts: &[Layout],
+    known: &mut Known,
+    holds: &mut Vec<FrameHold>,
+    slots: &[Option<P>],
+    kind: Kind,
+    step: StepFound,
+) -> Option<Entry>
+    requires good { IsGoodGround (ground_of sizes.now layouts.now) }
+    requires wide { IsWide sizes.now known.old }
+    requires fits { HoldsFit sizes.now holds.old.items }
+    requires pages { PagesFit sizes.now (map (option_map P.page) slots.now) }
+    requires asks { Asks (ground_of sizes.now layouts.now) step.by known.old step.place step.act step.word holds.old.items
+        (flattened (slice_get (map (option_map P.page) slots.now) (frame_in step.place))) kind }
+    ensures { let z = ground_of sizes.now layouts.now in (page : FrameView) →
+        IsPageFound kind (word_wanted step.act) (found step.word page)
+        (flattened (slice_get (map (option_map P.page) slots.now) (frame_in step.place))) →
+        Noted z step.by known.old known.new holds.old.items holds.new.items result
+        (λ v. outcome z step.by v step.place step.act (found step.word page) kind) }
+{
+    match kind {
+        Kind::K1 => polls(sizes, layouts, known, step),
+        Kind::K2 => {
+            goes(sizes, layouts, known, step);
+            None
+        }
+        Kind::K3 => writes(sizes, layouts, known, step),
+        Kind::K4 => loads(sizes, layouts, known, step),
+        Kind::K5 => stores(sizes, layouts, known, step),
+        Kind::K6 => reads(sizes, layouts, known, step),
+        Kind::K7 => stores(sizes, layouts, known, step),
+        Kind::K8 => bears(sizes, layouts, known, step),
+        Kind::K9 => looks(sizes, layouts, known, step),
+        Kind::K10 => claims(sizes, layouts, known, holds, slots, step),
+        Kind::K11 => puts_home(sizes, layouts, known, holds, step),
+        Kind::K12 => {
+            clears(sizes, layouts, known, holds, step);
+            None
+        }
+        _ => None,
+    }
+}

@@ -1,0 +1,4 @@
+mod Ends
+mod Sights
+mod Goings
+mod Claims

@@ -1,0 +1,5 @@
+mod Tellings
+mod Answering
+mod Looked
+mod Searching
+mod Wanted

@@ -1,0 +1,25 @@
+use Rattle.std.proofs.Common.{◌≡◌, ap, sym, ◌∙◌, map, replicate, None}
+use Rattle.kn_base.specs.Sizes.{frame_count}
+use Rattle.kn_rule.specs.declared.positions.Position.TheVariants.{Out}
+use Rattle.kn_view.specs.declared.looks.Look.{Look}
+use Rattle.kn_view.specs.Looks.{seen_in, refused_in}
+use Rattle.kn_view.proofs.Looked.{alike}
+use Rattle.kn_view.proofs.known.Known.open.Goals as goal
+
+pub returns : goal.returns
+returns c = λ z e.
+    let none : Look = record { seen_in = 0; word = 0; refused_in = 0 } in
+    let items : c.in_ok-vec.field-0.items ≡ replicate (frame_count z.sizes) none =
+    c.in_ok-vec.ensures.items_if_clones_equal (λ y h. h) ∙ ap (λ n. replicate n none) (c.frames.ensures ∙ ap frame_count (sym e)) in
+    λ t. record {
+      position = Out;
+      polled = 0;
+      locals = replicate 16 0;
+      header = None;
+      seen = (ap (map (seen_in 1)) items ∙ alike (seen_in 1) (frame_count z.sizes) none) t;
+      refused = (ap (map (refused_in 1)) items ∙ alike (refused_in 1) (frame_count z.sizes) none) t;
+      taken = None;
+      sweep = None;
+      calls = 0;
+      births = 0;
+    }

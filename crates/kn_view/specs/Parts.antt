@@ -1,0 +1,117 @@
+-- What is stored of one caller's view, and what a step makes of it.
+use Rattle.std.specs.Prelude.{◌≡◌, ℕ, ◌+◌, ◌<◌, ◌^◌, Bool, false, List, [], ◌∷◌, replicate, Option, Some, None, slice_get, slice_set}
+use Rattle.kn_base.specs.declared.numbers.Span.{Span}
+use Rattle.kn_base.specs.declared.heap.Sizes.{Sizes}
+use Rattle.kn_layout.specs.declared.layouts.Layout.{Layout}
+use Rattle.kn_base.specs.Sizes.{frame_count}
+use Rattle.kn_graph.specs.declared.entries.Entry.{Entry}
+use Rattle.kn_graph.specs.Ground.{Ground}
+use Rattle.kn_graph.specs.declared.calls.Call.{Call}
+use Rattle.kn_graph.specs.declared.calls.Call.TheVariants.{New, NewArray, Get, GlobalGet}
+use Rattle.kn_graph.specs.Arguments.{IsInRange}
+use Rattle.kn_rule.specs.declared.positions.Position.{Position}
+use Rattle.kn_rule.specs.declared.positions.Position.TheVariants.{Out, Calling}
+use Rattle.kn_rule.specs.declared.parts.Taken.{Taken}
+use Rattle.kn_rule.specs.Requests.{class_asked, words_asked}
+use Rattle.kn_rule.specs.Views.{View, Open, Sweep, flattened}
+use Rattle.kn_rule.specs.Steps.{Outcome}
+use Rattle.kn_rule.specs.Rule.{fresh}
+
+-- the sizes and the layouts of a heap, as one
+abbrev pub ground_of : Sizes → List Layout → Ground
+ground_of sizes layouts = record { sizes = sizes; layouts = layouts }
+
+-- what a view has beside the frames that its caller owns, its log, and what no built step changes
+pub record Part : Type 0 where
+  pub position : Position
+  pub polled : ℕ
+  pub locals : List ℕ
+  pub header : Option ℕ
+  pub seen : List (Option ℕ)
+  pub refused : List Bool
+  pub taken : Option Taken
+  pub sweep : Option Sweep
+  pub calls : ℕ
+  pub births : ℕ
+
+-- the view of a part, with what its caller owns and its log
+abbrev pub view_with : Ground → Part → List (Option Open) → List Entry → View
+view_with z part owned log = record (fresh z) {
+  position = part.position;
+  polled = part.polled;
+  locals = part.locals;
+  header = part.header;
+  seen = part.seen;
+  refused = part.refused;
+  owned = owned;
+  taken = part.taken;
+  sweep = part.sweep;
+  log = log;
+  calls = part.calls;
+  births = part.births;
+}
+
+abbrev pub said_list : Option Entry → List Entry
+said_list None = []
+said_list (Some entry) = entry ∷ []
+
+-- a step made one part of another and said this, as an outcome of the view says, whatever its caller owns and its log are
+abbrev pub Makes : Ground → Part → Part → Option Entry → (View → Outcome) → Type 0
+Makes z old new said outcome = (owned : List (Option Open)) (log : List Entry) →
+    record { view = view_with z new owned log; says = said_list said } ≡ outcome (view_with z old owned log)
+
+-- the same of a step that also changes what its caller owns of frame p, from one to another
+abbrev pub MakesOwning : Ground → Part → Part → Option Entry → ℕ → Option Open → Option Open → (View → Outcome) → Type 0
+MakesOwning z old new said p before after outcome = (owned : List (Option Open)) (log : List Entry) → flattened (slice_get owned p) ≡ before →
+    record { view = view_with z new (slice_set owned p after) log; says = said_list said } ≡ outcome (view_with z old owned log)
+
+-- the part of a caller that has made no step
+abbrev pub new_part : Ground → Part
+new_part z = record {
+  position = Out;
+  polled = 0;
+  locals = replicate 16 0;
+  header = None;
+  seen = replicate (frame_count z.sizes) None;
+  refused = replicate (frame_count z.sizes) false;
+  taken = None;
+  sweep = None;
+  calls = 0;
+  births = 0;
+}
+
+-- a call may begin: it is in range, and is counted below 2 ^ 32
+abbrev pub MayBegin : Ground → Part → Option Call → Type 0
+MayBegin z part None = Unit {0}
+MayBegin z part (Some call) = IsInRange z call × (part.calls + 3 < 2 ^ 32) × (part.births + 1 < 2 ^ 32)
+
+-- a call that reads a reference into a local reads an address
+abbrev pub IsReadAs : Call → ℕ → Type 0
+IsReadAs (Get r s f) word = (r < 16) × (word < 2 ^ 32)
+IsReadAs (GlobalGet r i) word = (r < 16) × (word < 2 ^ 32)
+IsReadAs _ word = Unit {0}
+
+abbrev IsReadableAt : Position → Option ℕ → ℕ → Type 0
+IsReadableAt (Calling (GlobalGet r i)) header word = (r < 16) × (word < 2 ^ 32)
+IsReadableAt (Calling call) (Some h) word = IsReadAs call word
+IsReadableAt _ header word = Unit {0}
+
+-- the word that a load finds for the call under way may be kept
+abbrev pub IsReadable : Part → ℕ → Type 0
+IsReadable part word = IsReadableAt part.position part.header word
+
+-- the local of a birth under way is one
+abbrev pub IsBirthLocal : Position → Type 0
+IsBirthLocal (Calling (New r layout)) = r < 16
+IsBirthLocal (Calling (NewArray r layout n)) = r < 16
+IsBirthLocal _ = Unit {0}
+
+-- the cell of n words at an address for a call, and its class
+abbrev pub cell_asked : Ground → ℕ → Call → Option ℕ → Option (Span × ℕ)
+cell_asked z address call None = None
+cell_asked z address call (Some n) = Some (record { start = address; len = n }, class_asked z call)
+
+-- the cell at an address that the call under way asks for, and its class
+abbrev pub cell_at : Ground → ℕ → Position → Option (Span × ℕ)
+cell_at z address (Calling call) = cell_asked z address call (words_asked z call)
+cell_at z address _ = None

@@ -1,0 +1,19 @@
+//! What is stored of one caller's view.
+//!
+//! A `Known` owns what a caller knows beside the frames that it owns and its log, which a board reads
+//! off elsewhere. Only that caller's own steps change it, each as the outcome of the step's kind says
+//! (`Makes` in `specs/Parts.antt`). Between any two steps each frame was seen and refused in a search
+//! before the next one alone, so a new search forgets all of them at once.
+#![tactic(auto)]
+
+mod cells;
+mod known;
+mod loads;
+mod looks;
+mod polls;
+mod searches;
+mod stores;
+mod words;
+
+pub use known::Known;
+pub use words::{class_of, left_by, stored_by, wanted_by};

@@ -1,0 +1,135 @@
+//! What loads of fields and of globals make of a view.
+ghost use Rattle.std.specs.Prelude.{◌≡◌, ◌<◌};
+ghost use Rattle.kn_graph.specs.Ground.{Ground};
+ghost use Rattle.kn_rule.specs.declared.positions.Position.TheVariants.{Calling};
+ghost use Rattle.kn_rule.specs.Steps.{Found, found};
+ghost use Rattle.kn_rule.specs.Outcomes.{load_body, global_read, header_for_call, field_read, ref_read, ref_word};
+ghost use Rattle.kn_rule.specs.Requests.{told_kind};
+ghost use Rattle.kn_view.specs.Parts.{IsReadAs, IsReadable, Makes};
+
+use crate::known::Known;
+use crate::words::shape_told;
+use kn_graph::{Call, Entry, Reply};
+use kn_layout::{FieldKind, Layout, kind_at};
+use kn_rule::Position;
+
+impl Known {
+    /// What a load of a header or of a field makes of it.
+    pub fn loads_body(&mut self, layouts: &[Layout], by: u8, word: u64) -> Option<Entry>
+        requires { IsReadable self.old word }
+        ensures { (z : Ground) (p : _) (a : _) (page : _) → z.layouts ≡ layouts.now →
+            Makes z self.old self.new result (λ v. load_body z by v p a (found word page) self.old.position self.old.header) }
+    {
+        match self.position {
+            Position::Calling(call) => match self.header {
+                None => self.reads_header(layouts, by, call, word),
+                Some(_) => self.reads_field(by, call, word),
+            },
+            _ => None,
+        }
+    }
+
+    fn reads_header(&mut self, layouts: &[Layout], by: u8, call: Call, word: u64) -> Option<Entry>
+        requires { self.old.position ≡ Calling call }
+        ensures { (z : Ground) (p : _) (a : _) (page : _) → z.layouts ≡ layouts.now →
+            Makes z self.old self.new result (λ v. header_for_call z by v p a (found word page) call (Rattle.kn_rule.specs.Requests.field_of call)) }
+    {
+        match field_of(call) {
+            None => None,
+            Some((_, field, wanted)) => match kind_told(layouts, word, field) {
+                None => {
+                    self.stands(Position::Between);
+                    self.answers(by, call, Reply::NoField, 0)
+                }
+                Some(kind) => {
+                    if kind == wanted {
+                        self.header = Some(word);
+                        None
+                    } else {
+                        self.stands(Position::Between);
+                        self.answers(by, call, Reply::WrongKind, 0)
+                    }
+                }
+            },
+        }
+    }
+
+    fn reads_field(&mut self, by: u8, call: Call, word: u64) -> Option<Entry>
+        requires { IsReadAs call word }
+        ensures { (z : Ground) (p : _) (a : _) (page : _) →
+            Makes z self.old self.new result (λ v. field_read z by v p a (found word page) call) }
+    {
+        match call {
+            Call::Get(r, _, _) => self.reads_reference(by, call, r, word as u32),
+            Call::Read(_, _) => {
+                self.stands(Position::Between);
+                self.answers(by, call, Reply::Int(word), 0)
+            }
+            _ => None,
+        }
+    }
+
+    /// What a load of a global makes of it.
+    pub fn loads_global(&mut self, by: u8, word: u32) -> Option<Entry>
+        requires { IsReadable self.old word }
+        ensures { (z : Ground) (p : _) (a : _) (page : _) →
+            Makes z self.old self.new result (λ v. global_read z by v p a (found word page) self.old.position) }
+    {
+        match self.position {
+            Position::Calling(call) => match call {
+                Call::GlobalGet(r, _) => self.reads_reference(by, call, r, word),
+                _ => None,
+            },
+            _ => None,
+        }
+    }
+
+    // A reference was read into a local.
+    fn reads_reference(&mut self, by: u8, call: Call, r: u8, address: u32) -> Option<Entry>
+        requires { r < 16 }
+        ensures { (z : Ground) (p : _) (a : _) (f : Found) → f.word ≡ address →
+            Makes z self.old self.new result (λ v. ref_read z by v p a f call r) }
+    {
+        self.sets_local(r, address);
+        self.stands(Position::Writing(r, address, 0));
+        self.answers(by, call, reply_to_reference(address), 0)
+    }
+}
+
+// The local that names the object of a call on a field, the field, and the kind wanted.
+fn field_of(call: Call) -> Option<(u8, u32, FieldKind)>
+    ensures { result ≡ Rattle.kn_rule.specs.Requests.field_of call }
+{
+    match call {
+        Call::Get(_, s, f) => Some((s, f, FieldKind::Ref)),
+        Call::Set(s, f, _) => Some((s, f, FieldKind::Ref)),
+        Call::Put(s, f, _) => Some((s, f, FieldKind::Int)),
+        Call::Read(s, f) => Some((s, f, FieldKind::Int)),
+        _ => None,
+    }
+}
+
+// The answer where a reference was read.
+fn reply_to_reference(address: u32) -> Reply
+    ensures { result ≡ ref_word address }
+{
+    if address == 0 {
+        Reply::Null
+    } else {
+        Reply::Ref
+    }
+}
+
+// The kind of a field of the object that a header tells of.
+fn kind_told(layouts: &[Layout], word: u64, field: u32) -> Option<FieldKind>
+    ensures { (z : Ground) → z.layouts ≡ layouts.now → result ≡ told_kind z word field }
+{
+    let (layout, length) = shape_told(word);
+    if field >= length {
+        return None;
+    }
+    match layouts.get(layout) {
+        None => None,
+        Some(layout) => kind_at(layout, length, field),
+    }
+}

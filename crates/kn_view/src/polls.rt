@@ -1,0 +1,184 @@
+//! What polls make of a view.
+ghost use Rattle.std.specs.Prelude.{◌≡◌, ◌+◌, ◌^◌, ◌<◌, ◌==◌, false, cond, length, replicate, slice_index};
+ghost use Rattle.kn_base.specs.declared.places.Place.TheVariants.{Phase};
+ghost use Rattle.kn_base.specs.Sizes.{frame_count};
+ghost use Rattle.kn_graph.specs.declared.calls.Reply.TheVariants.{Full, Nil};
+ghost use Rattle.kn_graph.specs.Arguments.{IsInRange};
+ghost use Rattle.kn_graph.specs.Counts;
+ghost use Rattle.kn_graph.specs.Ground.{Ground, IsGoodGround};
+ghost use Rattle.kn_rule.specs.declared.steps.Action.TheVariants.{LoadsFor};
+ghost use Rattle.kn_rule.specs.Requests.{class_asked, asks_too_much};
+ghost use Rattle.kn_rule.specs.Steps.{found};
+ghost use Rattle.kn_rule.specs.Outcomes.{polled, poll_run, view_answer};
+ghost use Rattle.kn_view.specs.Parts.{Makes, MayBegin, ground_of, view_with};
+
+use crate::known::Known;
+use crate::words::runs;
+use kn_base::Sizes;
+use kn_graph::{Call, Entry, Reply};
+use kn_layout::Layout;
+use kn_rule::{Position, class_of_words, is_past_frames, words_asked};
+
+impl Known {
+    /// What a poll makes of it.
+    pub fn polls(
+        &mut self,
+        sizes: &Sizes,
+        layouts: &[Layout],
+        by: u8,
+        word: u64,
+        next: Option<Call>,
+    ) -> Option<Entry>
+        requires good { IsGoodGround (ground_of sizes.now layouts.now) }
+        requires next { MayBegin (ground_of sizes.now layouts.now) self.old next }
+        requires word { word < 2 ^ 35 }
+        requires width { length self.old.seen ≡ frame_count sizes.now }
+        ensures { let z : Ground = ground_of sizes.now layouts.now in
+            (page : _) → Makes z self.old self.new result (λ v. polled z by v Phase (LoadsFor next) (found word page)) }
+    {
+        match self.position {
+            Position::Entering => {
+                if runs(word) {
+                    self.begins(sizes, layouts, by, word, next)
+                } else {
+                    None
+                }
+            }
+            Position::Between => {
+                if runs(word) {
+                    self.begins(sizes, layouts, by, word, next)
+                } else {
+                    self.stands(Position::Leaving);
+                    None
+                }
+            }
+            _ => None,
+        }
+    }
+
+    // In a run phase a call begins, or none.
+    fn begins(
+        &mut self,
+        sizes: &Sizes,
+        layouts: &[Layout],
+        by: u8,
+        word: u64,
+        next: Option<Call>,
+    ) -> Option<Entry>
+        requires good { IsGoodGround (ground_of sizes.now layouts.now) }
+        requires next { MayBegin (ground_of sizes.now layouts.now) self.old next }
+        requires word { word < 2 ^ 35 }
+        requires width { length self.old.seen ≡ frame_count sizes.now }
+        ensures { let z : Ground = ground_of sizes.now layouts.now in
+            (page : _) → Makes z self.old self.new result (λ v. poll_run z by v Phase (LoadsFor next) (found word page) next) }
+    {
+        match next {
+            None => {
+                self.polled = word;
+                self.stands(Position::Between);
+                None
+            }
+            Some(call) => {
+                let reply = self.answer_to(sizes, layouts, call);
+                self.counts(word, makes_object(call));
+                match reply {
+                    None => {
+                        self.stands(Position::Calling(call));
+                        None
+                    }
+                    Some(reply) => {
+                        self.stands(Position::Between);
+                        self.answers(by, call, reply, 0)
+                    }
+                }
+            }
+        }
+    }
+
+    // A call begins: nothing was read for it, and nothing was seen in its search.
+    fn counts(&mut self, word: u64, birth: bool)
+        requires word { word < 2 ^ 35 }
+        requires calls { self.old.calls + 3 < 2 ^ 32 }
+        requires births { self.old.births + 1 < 2 ^ 32 }
+        ensures { self.new ≡ record self.old {
+          polled = word;
+          header = None;
+          seen = replicate (length self.old.seen) None;
+          refused = replicate (length self.old.seen) false;
+          calls = self.old.calls + 1;
+          births = self.old.births + cond birth 1 0;
+        } }
+    {
+        self.polled = word;
+        self.header = None;
+        self.calls += 1;
+        self.births += u32::from(birth);
+    }
+
+    // What the view alone answers.
+    fn answer_to(&self, sizes: &Sizes, layouts: &[Layout], call: Call) -> Option<Reply>
+        requires good { IsGoodGround (ground_of sizes.now layouts.now) }
+        requires in_range { IsInRange (ground_of sizes.now layouts.now) call }
+        ensures { (owned : _) (log : _) → let z : Ground = ground_of sizes.now layouts.now in
+            result ≡ view_answer z (view_with z self.now owned log) call }
+    {
+        match call {
+            Call::New(_, _) => is_too_much(sizes, layouts, call),
+            Call::NewArray(_, _, _) => is_too_much(sizes, layouts, call),
+            Call::Same(r, s) => {
+                if self.local(r) == self.local(s) {
+                    Some(Reply::Yes)
+                } else {
+                    Some(Reply::No)
+                }
+            }
+            Call::Get(_, s, _) => self.nil_at(s),
+            Call::Set(s, _, _) => self.nil_at(s),
+            Call::Put(s, _, _) => self.nil_at(s),
+            Call::Read(s, _) => self.nil_at(s),
+            _ => None,
+        }
+    }
+
+    fn nil_at(&self, r: u8) -> Option<Reply>
+        requires { r < 16 }
+        ensures { result ≡ cond (slice_index self.now.locals r == 0) (Some Nil) None }
+    {
+        if self.local(r) == 0 {
+            Some(Reply::Nil)
+        } else {
+            None
+        }
+    }
+}
+
+// Whether a call makes an object.
+fn makes_object(call: Call) -> bool
+    ensures { result ≡ Rattle.kn_graph.specs.Counts.makes_object call }
+{
+    match call {
+        Call::New(_, _) => true,
+        Call::NewArray(_, _, _) => true,
+        _ => false,
+    }
+}
+
+// A birth whose cell is longer than a frame is full.
+fn is_too_much(sizes: &Sizes, layouts: &[Layout], call: Call) -> Option<Reply>
+    requires good { IsGoodGround (ground_of sizes.now layouts.now) }
+    requires fits { IsInRange (ground_of sizes.now layouts.now) call }
+    ensures { let z : Ground = ground_of sizes.now layouts.now in
+        result ≡ cond (asks_too_much z.sizes (class_asked z call) (Rattle.kn_rule.specs.Requests.words_asked z call)) (Some Full) None }
+{
+    match words_asked(sizes, layouts, &call) {
+        None => None,
+        Some(words) => {
+            let class = class_of_words(sizes, words);
+            if is_past_frames(sizes, class, words) {
+                Some(Reply::Full)
+            } else {
+                None
+            }
+        }
+    }
+}
