@@ -90,6 +90,7 @@ impl FixedPage {
         ensures after { MatchOption result (self.new ≡ self.old)
             (λ cell. self.new ≡ record self.old { spans = without cell self.old.spans }) }
         ensures cell { IfSome result (IsTakenCell self.new.frame self.new.words self.new.spans) }
+        ensures size { IsCellSize self.old.words }
         ensures others { (other : Span) → IsTakenCell self.old.frame self.old.words self.old.spans other
             → IsTakenCell self.new.frame self.new.words self.new.spans other × IfSome result (AreApart other) }
     {

@@ -1,8 +1,10 @@
 -- The words of a frame behind a cell at its start.
-use Rattle.std.proofs.Common.{ℕ, ◌+◌, ◌-◌, ◌<◌, ◌≤◌, ◌≡◌, [], ◌∷◌, Option, Some, length, refl, ap, ◌∙◌, sym, subst, inl}
-use Rattle.std.proofs.Common.{inr, arith}
+use Rattle.std.proofs.Common.{ℕ, ◌+◌, ◌-◌, ◌<◌, ◌≤◌, ◌≡◌, ◌⊎◌, [], ◌∷◌, Option, Some, All, length, refl, ap, ◌∙◌}
+use Rattle.std.proofs.Common.{sym, subst, inl, inr, arith}
 use Rattle.std.specs.Prelude.{Any, MatchOption}
 use Rattle.std.specs.Option.{option_map}
+use Rattle.std.specs.List.{AllByRecursion}
+use Rattle.std.proofs.lemmas.List.Elements.{All-from_recursion}
 use Rattle.std.proofs.lemmas.Bool.{lt-ltb, le-ltb, le-leb, cases_lt}
 use Rattle.kn_base.specs.declared.numbers.Span.{Span}
 use Rattle.kn_base.specs.Spans.{end_of}
@@ -85,3 +87,39 @@ room_for_cell cell frame free e rest h =
           let none = ap (length {A = Span}) (rest ∙ words_behind-all cell.len frame more) in
           inl (omega (arith, none))
     ]
+
+-- behind the first words of a frame lies no span that is longer than the frame
+behind_is_short : (k n : ℕ) (frame : Span) → k ≤ frame.len → frame.len < n → AllByRecursion (λ span. span.len < n) (words_behind k frame)
+behind_is_short k n frame h less =
+    elim (cases_lt k frame.len) [
+      | inl lt ↦ subst (AllByRecursion (λ (span : Span). span.len < n)) (sym (words_behind-some k frame lt)) (omega arith, tt)
+      | inr le ↦ subst (AllByRecursion (λ (span : Span). span.len < n)) (sym (words_behind-all k frame le)) tt
+    ]
+
+-- a cell was taken or the frame is too short exactly where the page is not whole or no free span has as many words
+module _ (n : ℕ) (page : SingleState) (span : 0 < page.frame.len) (l : LeavesOneCell page.frame page.spans) where
+  not_whole : HasTakenCell page → ¬ (page.spans ≡ page.frame ∷ [])
+  not_whole has whole =
+      let less = (cell_where_words_lack page l).1 has in
+      let count = ap free_word_count whole in
+      omega (arith, less, count)
+
+  pub unable : HasTakenCell page ⊎ (page.frame.len < n) → (¬ (page.spans ≡ page.frame ∷ [])) ⊎ All (λ s. s.len < n) page.spans
+  unable (inl has) = inl (not_whole has)
+  unable (inr less) =
+      inr (All-from_recursion (λ (s : Span). s.len < n) page.spans
+      (subst (AllByRecursion (λ (s : Span). s.len < n)) (sym l.2) (behind_is_short l.0 n page.frame l.1 less)))
+
+  by_size : (0 < l.0) ⊎ (l.0 ≤ 0) → (¬ (page.spans ≡ page.frame ∷ [])) ⊎ All (λ s. s.len < n) page.spans →
+      HasTakenCell page ⊎ (page.frame.len < n)
+  by_size (inl taken) h = inl (front_of l.0 page.frame, record { at_start = refl; not_empty = taken; within = l.1; rest_is_free = l.2 })
+  by_size (inr none) (inl other) =
+      let e : l.0 ≡ 0 = omega arith in
+      absurd (other (l.2 ∙ ap (λ n. words_behind n page.frame) e ∙ words_behind-none page.frame span))
+  by_size (inr none) (inr short) =
+      let e : l.0 ≡ 0 = omega arith in
+      let whole : page.spans ≡ page.frame ∷ [] = l.2 ∙ ap (λ n. words_behind n page.frame) e ∙ words_behind-none page.frame span in
+      inr (subst (All (λ (s : Span). s.len < n)) whole short 0 page.frame (omega arith))
+
+  pub able : (¬ (page.spans ≡ page.frame ∷ [])) ⊎ All (λ s. s.len < n) page.spans → HasTakenCell page ⊎ (page.frame.len < n)
+  able h = by_size (cases_lt 0 l.0) h

@@ -1,6 +1,6 @@
-ghost use Rattle.std.specs.Prelude.{◌≡◌, ◌↔◌, ℕ, ◌<◌, ◌≤◌, ◌⊎◌, IfOk, IfSome, IsNone, IsTrue, MatchOption};
+ghost use Rattle.std.specs.Prelude.{◌≡◌, ◌↔◌, ℕ, ◌<◌, ◌≤◌, ◌⊎◌, All, IfOk, IfSome, IsNone, IsTrue, MatchOption};
 ghost use Rattle.kn_base.specs.Spans.{IsSpan};
-ghost use Rattle.kn_base.specs.SpanLists.{IsFreeListOf, free_word_count, front_of, put_in, without};
+ghost use Rattle.kn_base.specs.SpanLists.{IsFreeListOf, IsWhollyFree, free_word_count, front_of, put_in, without};
 ghost use Rattle.kn_single.specs.SingleState.{HasTakenCell, IsTakenFront, LeavesOneCell, whole_single_page};
 
 use kn_base::Span;
@@ -42,6 +42,9 @@ impl SinglePage {
     pub fn take(&mut self, n: u32) -> Option<Span>
         requires { 1 ≤ n }
         ensures none { IsNone result ↔ (HasTakenCell self.old ⊎ (self.old.frame.len < n)) }
+        ensures unable { IsNone result
+            ↔ ((¬ IsWhollyFree self.old.frame self.old.spans) ⊎ All (λ span. span.len < n) self.old.spans) }
+        ensures whole { IfSome result (λ _. IsWhollyFree self.old.frame self.old.spans) }
         ensures taken { IfSome result (λ cell. cell ≡ front_of n self.old.frame) }
         ensures after { MatchOption result (self.new ≡ self.old)
             (λ cell. self.new ≡ record self.old { spans = without cell self.old.spans }) }

@@ -9,10 +9,10 @@ use Rattle.kn_rule.specs.Decoding.{PacksFrame}
 use Rattle.kn_rule.specs.Steps.{Step, Found, logged}
 use Rattle.kn_rule.specs.Outcomes.{full_if, looked_at, saw}
 use Rattle.kn_rule.specs.Views.{View}
-use Rattle.kn_steps.specs.Made.{Made, Stand}
+use Rattle.kn_steps.specs.Made.{LieAs, Made, Stand}
 use Rattle.kn_store.specs.Search.{Search, IsOver, first_of}
-use Rattle.kn_store.specs.Agree.{Agrees, KnowsSame}
-use Rattle.kn_store.proofs.Ends.{over_told}
+use Rattle.kn_store.specs.Agree.{Agrees, KnowsSame, OnlySaw, SawFull}
+use Rattle.kn_store.proofs.Ends.{over_shown, over_told}
 
 -- the word that a step finds of a frame packs a frame word
 pub found_packs : (a b : Stand) (here here' : ℕ → Bool) (d : Step) (f : Found) (p : ℕ) → Made a here d f b here' → d.place ≡ Frame p →
@@ -46,7 +46,10 @@ module _ (m m' : Search) (a b : Stand) (g : Agrees m a) (i : ℕ) (act : Action)
     saw_it : b ≡ record a { view = record v { seen = slice_set v.seen frame (Some f.word) } }
     saw_it =
         is ∙ ((λ t. record a { view = logged (looked_at a.heap a.by v (Frame frame) act f (g.is_call t)) })
-        ∙ (λ t. record a { view = logged (full_if a.heap a.by v (Frame frame) act f (goes_on t) g.call (saw a.heap a.by v (Frame frame) act f frame)) }))
+        ∙ (λ t. record a {
+          view = logged (full_if a.heap a.by v (Frame frame) act f (goes_on t) g.call
+              (saw a.heap a.by v (Frame frame) act f frame));
+        }))
 
     agrees_then : Agrees m' (record a { view = record v { seen = slice_set v.seen frame (Some f.word) } })
     agrees_then = record {
@@ -68,3 +71,33 @@ module _ (m m' : Search) (a b : Stand) (g : Agrees m a) (i : ℕ) (act : Action)
 
     pub agrees_still : Agrees m' b
     agrees_still = subst (Agrees m') (sym saw_it) agrees_then
+
+  -- a look that ends the search answers the call of the view Full
+  saw_full : (class : m'.class ≡ m.class) (sizes : m'.sizes ≡ m.sizes) (same : KnowsSame m' (slice_set v.seen frame (Some f.word)) v.refused)
+      (is : b ≡ record a { view = logged (looked_at a.heap a.by v (Frame frame) act f v.position) }) → IsOver m' →
+      b ≡ record a { view = logged (full_if a.heap a.by v (Frame frame) act f true g.call (saw a.heap a.by v (Frame frame) act f frame)) }
+  saw_full class sizes same is over =
+      let ends : ended ≡ true =
+      over_shown a.heap g.call m' (slice_set v.seen frame (Some f.word)) v.refused (g.sizes ∙ sym sizes) (class ∙ g.class) same over in
+      is ∙ ((λ t. record a { view = logged (looked_at a.heap a.by v (Frame frame) act f (g.is_call t)) })
+      ∙ (λ t. record a { view = logged (full_if a.heap a.by v (Frame frame) act f (ends t) g.call (saw a.heap a.by v (Frame frame) act f frame)) }))
+
+  -- a look, or a claim that is lost, shows one word more, or ends the search and answers Full
+  pub shows : (class : m'.class ≡ m.class) (sizes : m'.sizes ≡ m.sizes) (by : m'.by ≡ m.by) (epoch : m'.epoch ≡ m.epoch)
+      (same : KnowsSame m' (slice_set v.seen frame (Some f.word)) v.refused)
+      (is : b ≡ record a { view = logged (looked_at a.heap a.by v (Frame frame) act f v.position) }) (here here' : ℕ → Bool) →
+      LieAs b.view here here' → ((IsOver m' → ⊥) → OnlySaw a here b here') × (IsOver m' → SawFull a here b here')
+  shows class sizes by epoch same is here here' lies = (
+    λ open_still.
+        let e = saw_it class sizes by epoch same is open_still in
+        record { seen = slice_set v.seen frame (Some f.word); view = e; lies = subst (λ (b : Stand). LieAs b.view here here') e lies },
+    λ over.
+        let e = saw_full class sizes same is over in
+        record {
+          call = g.call;
+          is_call = g.is_call;
+          seen = slice_set v.seen frame (Some f.word);
+          view = e;
+          lies = subst (λ (b : Stand). LieAs b.view here here') e lies;
+        },
+  )

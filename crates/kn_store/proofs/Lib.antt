@@ -2,3 +2,4 @@ mod Ends
 mod Sights
 mod Goings
 mod Claims
+mod Refusals

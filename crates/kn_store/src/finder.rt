@@ -1,15 +1,14 @@
 //! The search of one caller.
-ghost use Rattle.std.specs.Prelude.{◌≡◌, ◌+◌, ◌<◌, ◌≤◌, ◌⊎◌, ◌↔◌, IfOk, IsTrue, Some, None};
-ghost use Rattle.std.specs.Prelude.{length};
+ghost use Rattle.std.specs.Prelude.{◌≡◌, ℕ, ◌+◌, ◌<◌, ◌≤◌, ◌⊎◌, ◌↔◌, IfOk, IsTrue, Some, None, Bool, List, Option, length};
+ghost use Rattle.std.specs.Prelude.{slice_set, true};
 ghost use Rattle.kn_base.specs.Sizes.{IsGood};
 ghost use Rattle.kn_base.specs.Classes.{IsClassNumber};
 ghost use Rattle.kn_base.specs.Words.{IsFrameWord, packed_frame};
 ghost use Rattle.kn_base.specs.declared.kinds.FrameKind.TheVariants.{Owned};
 ghost use Rattle.kn_rule.specs.Decoding.{PacksFrame, frame_of};
 ghost use Rattle.kn_rule.specs.Requests.{owned_word};
-ghost use Rattle.kn_store.specs.Agree.{Agrees, Turned};
-ghost use Rattle.kn_store.specs.Search.{GoesOn, IsBest, IsChoice, IsOpen, IsOver, count_of, first_of, new_search, rank_of, saw_again, saw_next};
-ghost use Rattle.kn_store.specs.Search.{with_refused};
+ghost use Rattle.kn_store.specs.Agree.{Agrees, KnowsSame, OnlySaw, SawFull, TellsOver, Turned};
+ghost use Rattle.kn_store.specs.Search.{GoesOn, IsBest, IsChoice, IsOpen, IsOver, count_of, first_of, new_search, rank_of, saw_again, saw_next, with_refused};
 ghost use Rattle.kn_store.specs.declared.finder.Seen.{Seen};
 ghost use Rattle.kn_store.specs.declared.look.Look.TheVariants.{Looking, Full};
 
@@ -102,6 +101,17 @@ impl Finder {
         requires once { (frame.0 < first_of self.old + length self.old.seen) ⊎ (self.old.early ≡ None) }
         ensures refused { self.new ≡ with_refused self.old frame.0 }
         ensures over { IsTrue result ↔ IsOver self.new }
+        ensures knows { (seen : List (Option ℕ)) (flags : List Bool) → KnowsSame self.old seen flags
+            → KnowsSame self.new seen (slice_set flags frame.0 true) }
+        ensures tells { TellsOver self.new }
+    {
+        self.rules_out(frame);
+        self.is_over()
+    }
+
+    fn rules_out(&mut self, frame: FrameNo)
+        requires area { (first_of self.old ≤ frame.0) × (frame.0 < first_of self.old + count_of self.old) }
+        ensures { self.new ≡ with_refused self.old frame.0 }
     {
         let number = usize::from(frame.0) - self.from as usize;
         match self.seen.get(number) {
@@ -114,7 +124,6 @@ impl Finder {
             }
             None => self.early = Some(frame.0),
         }
-        self.is_over()
     }
 
     /// Looks at the next frame of the area, or, where all were seen, claims the best one. The search is
@@ -126,6 +135,8 @@ impl Finder {
         ensures turned { Turned T.stand T.here T.did self.old steps.old steps.new self.new result }
         ensures agrees { result ≡ Looking → Agrees self.new (T.stand steps.new) }
         ensures full { (result ≡ Full) ↔ IsOver self.new }
+        ensures saw { (result ≡ Looking) → OnlySaw (T.stand steps.old) (T.here steps.old) (T.stand steps.new) (T.here steps.new) }
+        ensures ended { (result ≡ Full) → SawFull (T.stand steps.old) (T.here steps.old) (T.stand steps.new) (T.here steps.new) }
     {
         if self.seen.len() < self.count as usize {
             self.looks(steps)
@@ -143,6 +154,8 @@ impl Finder {
         ensures turned { Turned T.stand T.here T.did self.old steps.old steps.new self.new result }
         ensures agrees { result ≡ Looking → Agrees self.new (T.stand steps.new) }
         ensures full { (result ≡ Full) ↔ IsOver self.new }
+        ensures saw { (result ≡ Looking) → OnlySaw (T.stand steps.old) (T.here steps.old) (T.stand steps.new) (T.here steps.new) }
+        ensures ended { (result ≡ Full) → SawFull (T.stand steps.old) (T.here steps.old) (T.stand steps.new) (T.here steps.new) }
     {
         let frame = self.frame(self.looked());
         let word = steps.load(Place::Frame(frame), Kind::K9);
@@ -189,6 +202,8 @@ impl Finder {
         ensures turned { Turned T.stand T.here T.did self.old steps.old steps.new self.new result }
         ensures agrees { result ≡ Looking → Agrees self.new (T.stand steps.new) }
         ensures full { (result ≡ Full) ↔ IsOver self.new }
+        ensures saw { (result ≡ Looking) → OnlySaw (T.stand steps.old) (T.here steps.old) (T.stand steps.new) (T.here steps.new) }
+        ensures ended { (result ≡ Full) → SawFull (T.stand steps.old) (T.here steps.old) (T.stand steps.new) (T.here steps.new) }
     {
         let frame = self.frame(number);
         let new = self.claimed_word(seen.word);

@@ -1,8 +1,8 @@
-use Rattle.std.proofs.Common.{◌≡◌, Some, IfSome, is_some, ap, subst, sym, ◌∙◌, refl, inl, inr, arith}
+use Rattle.std.proofs.Common.{◌≡◌, ◌<◌, ◌⊎◌, [], ◌∷◌, All, Some, IfSome, is_some, ap, subst, sym, ◌∙◌, refl, inl, inr, arith}
 use Rattle.std.proofs.lemmas.Bool.{true≢false}
 use Rattle.kn_base.specs.SpanLists.{front_of}
 use Rattle.kn_single.specs.SingleState.{SingleState, HasTakenCell, IsTakenFront, words_behind}
-use Rattle.kn_single.proofs.Behind.{whole_without_cell, front_taken}
+use Rattle.kn_single.proofs.Behind.{able, whole_without_cell, front_taken}
 use Rattle.kn_single.proofs.page.SinglePage.take.Goals as goal
 
 -- no cell was taken before
@@ -18,7 +18,8 @@ front c =
     let none : HasTakenCell page → ⊥ = λ has. no_cell c (subst HasTakenCell c.self.view_is has) in
     let whole = whole_without_cell page c.self.invariant.span.0 c.self.invariant.cell none in
     let taken = c.take_first.ensures in
-    front_taken c.args.n p.frame p.free c.take_first.new.self c.take_first.result c.fronts_leave_rests.ensures whole c.if-n-self.false taken.taken taken.after
+    front_taken c.args.n p.frame p.free c.take_first.new.self c.take_first.result c.fronts_leave_rests.ensures whole c.if-n-self.false
+    taken.taken taken.after
 
 pub invariant_of-self : goal.invariant_of-self
 invariant_of-self c =
@@ -35,6 +36,32 @@ returns-clause-none c =
         | inr less ↦ absurd (omega (arith, c.if-n-self.false, ap (λ span. span.len) frame))
       ],
     )
+
+-- the page before, as its fields say
+abbrev before : (c : goal.After-take_first) → SingleState
+before c = record { frame = c.self.inside.frame; spans = c.self.inside.free.spans }
+
+pub returns-clause-unable : goal.returns-clause-unable
+returns-clause-unable c =
+    let w = front c in
+    let here = c.self.invariant in
+    let frame = ap (λ page. page.frame) c.self.view_is in
+    let no_cause : (HasTakenCell (before c) ⊎ (c.self.inside.frame.len < c.args.n)) → ⊥ = λ cause. elim cause [
+      | inl has ↦ no_cell c (subst HasTakenCell c.self.view_is has)
+      | inr less ↦ omega (arith, c.if-n-self.false)
+    ] in (
+      λ none. absurd (true≢false (sym (ap is_some w.0) ∙ none)),
+      λ cause. absurd (no_cause (able c.args.n (before c) here.span.0 here.cell
+          (subst (λ (p : SingleState). (¬ (p.spans ≡ p.frame ∷ [])) ⊎ All (λ s. s.len < c.args.n) p.spans) (sym c.self.view_is) cause))),
+    )
+
+pub returns-clause-whole : goal.returns-clause-whole
+returns-clause-whole c =
+    let w = front c in
+    let none : HasTakenCell (before c) → ⊥ = λ has. no_cell c (subst HasTakenCell c.self.view_is has) in
+    let whole = whole_without_cell (before c) c.self.invariant.span.0 c.self.invariant.cell none in
+    subst (λ found. IfSome found (λ _. c.args.self.now.spans ≡ c.args.self.now.frame ∷ [])) (sym w.0)
+    (subst (λ (p : SingleState). p.spans ≡ p.frame ∷ []) c.self.view_is whole)
 
 pub returns-clause-taken : goal.returns-clause-taken
 returns-clause-taken c =

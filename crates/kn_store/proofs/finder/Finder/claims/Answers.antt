@@ -1,4 +1,4 @@
-use Rattle.std.proofs.Common.{◌<◌, refl, sym, ◌∙◌, subst, ne_eqb}
+use Rattle.std.proofs.Common.{◌≡◌, ℕ, ◌<◌, ◌==◌, Bool, true, cond, refl, ap, sym, ◌∙◌, subst, ne_eqb}
 use Rattle.kn_base.specs.Sizes.{frame_count}
 use Rattle.kn_base.specs.declared.places.Place.TheVariants.{Frame}
 use Rattle.kn_rule.specs.declared.steps.Action.TheVariants.{Swaps}
@@ -6,9 +6,12 @@ use Rattle.kn_rule.specs.declared.steps.Kind.TheVariants.{K10}
 use Rattle.kn_rule.specs.Allowed.{MayClaim}
 use Rattle.kn_rule.specs.Steps.{does, found, logged}
 use Rattle.kn_rule.specs.Outcomes.{claimed_if}
+use Rattle.kn_base.specs.Functions.{upd}
+use Rattle.kn_base.proofs.Updates.{upd_same}
+use Rattle.kn_steps.specs.Made.{LieAs}
 use Rattle.kn_store.specs.Search.{GoesOn, IsOver, Search, saw_again}
 use Rattle.kn_store.specs.Agree.{Agrees}
-use Rattle.kn_store.proofs.Goings.{agrees_still, found_packs}
+use Rattle.kn_store.proofs.Goings.{agrees_still, found_packs, shows}
 use Rattle.kn_store.proofs.Sights.{sees_again}
 use Rattle.kn_store.proofs.finder.Finder.claims.Goals as goal
 use Rattle.kn_store.proofs.Claims.{may_claim, near}
@@ -46,3 +49,43 @@ returns-in-Err-clause-agrees g c = λ e.
     (sees_again m a.view.seen a.view.refused c.requires.agrees.same w c.args.number c.args.seen c.requires.best.near c.requires.best.at)
     (h.1.view ∙ (λ t. record a { view = logged (claimed_if a.heap a.by a.view (Frame (c.frame-frame.ensures t)) act (found w h.0) (lost t)) }))
     (λ o. open_still (subst IsOver (sym c.sees_again.ensures) o)))
+
+pub returns-in-Err-clause-saw : goal.returns-in-Err-clause-saw
+returns-in-Err-clause-saw g c = λ e.
+    let m = c.args.self.now in
+    let a = g.T.Steps.stand c.args.steps.now in
+    let here = g.T.Steps.here c.args.steps.now in
+    let here' = g.T.Steps.here c.swap_if.new.self in
+    let b = g.T.Steps.stand c.swap_if.new.self in
+    let w = c.in-Err.word in
+    let h = c.in-Err.ensures.made in
+    let act = Swaps c.args.seen.word c.claimed_word-new.result in
+    let going = subst (GoesOn c.sees_again.new.self) e c.goes_on.ensures in
+    let lost = ne_eqb w c.args.seen.word c.in-Err.ensures.tells in
+    let stay : upd here c.frame-frame.result (cond (w == c.args.seen.word) true (here c.frame-frame.result)) ≡ here =
+    upd_same here c.frame-frame.result (cond (w == c.args.seen.word) true (here c.frame-frame.result))
+    (ap (λ x. cond x true (here c.frame-frame.result)) lost) in
+    (shows m (saw_again m c.args.number c.args.seen w) a b c.requires.agrees c.args.number act (found w h.0) refl refl refl refl
+    (sees_again m a.view.seen a.view.refused c.requires.agrees.same w c.args.number c.args.seen c.requires.best.near c.requires.best.at)
+    (h.1.view ∙ (λ t. record a { view = logged (claimed_if a.heap a.by a.view (Frame (c.frame-frame.ensures t)) act (found w h.0) (lost t)) }))
+    here here' (subst (λ (h : ℕ → Bool). LieAs b.view h here') stay h.1.lies)).0 (λ o. going (subst IsOver (sym c.sees_again.ensures) o))
+
+pub returns-in-Err-clause-ended : goal.returns-in-Err-clause-ended
+returns-in-Err-clause-ended g c = λ e.
+    let m = c.args.self.now in
+    let a = g.T.Steps.stand c.args.steps.now in
+    let here = g.T.Steps.here c.args.steps.now in
+    let here' = g.T.Steps.here c.swap_if.new.self in
+    let b = g.T.Steps.stand c.swap_if.new.self in
+    let w = c.in-Err.word in
+    let h = c.in-Err.ensures.made in
+    let act = Swaps c.args.seen.word c.claimed_word-new.result in
+    let going = subst (GoesOn c.sees_again.new.self) e c.goes_on.ensures in
+    let lost = ne_eqb w c.args.seen.word c.in-Err.ensures.tells in
+    let stay : upd here c.frame-frame.result (cond (w == c.args.seen.word) true (here c.frame-frame.result)) ≡ here =
+    upd_same here c.frame-frame.result (cond (w == c.args.seen.word) true (here c.frame-frame.result))
+    (ap (λ x. cond x true (here c.frame-frame.result)) lost) in
+    (shows m (saw_again m c.args.number c.args.seen w) a b c.requires.agrees c.args.number act (found w h.0) refl refl refl refl
+    (sees_again m a.view.seen a.view.refused c.requires.agrees.same w c.args.number c.args.seen c.requires.best.near c.requires.best.at)
+    (h.1.view ∙ (λ t. record a { view = logged (claimed_if a.heap a.by a.view (Frame (c.frame-frame.ensures t)) act (found w h.0) (lost t)) }))
+    here here' (subst (λ (h : ℕ → Bool). LieAs b.view h here') stay h.1.lies)).1 (subst IsOver c.sees_again.ensures going)

@@ -1,0 +1,17 @@
+mod Spans
+mod Pages
+mod HomeWords
+mod Tries
+mod Hands
+mod Owned
+mod Stages
+mod Clears
+mod Returns
+mod Refusals
+mod Claims
+mod Searched
+mod Tried
+mod Comes
+mod Starts
+mod Turns
+mod Goes

@@ -1,0 +1,24 @@
+use Rattle.std.proofs.Common.{sym, subst}
+use Rattle.kn_alloc.specs.Keeps.{Keeps}
+use Rattle.kn_alloc.specs.Agree.{Agrees}
+use Rattle.kn_alloc.proofs.Stages.{born, born_stands, may_bear}
+use Rattle.kn_alloc.proofs.alloc.ThreadAlloc.bears.Goals as goal
+
+pub store-requires : goal.store-requires
+store-requires g c =
+    may_bear c.args.self.now (g.T.Steps.stand c.args.steps.now) (g.T.Steps.here c.args.steps.now) c.requires.agrees c.args.cell c.requires.stage
+    c.mark.result c.mark.ensures
+
+pub returns-clause-agrees : goal.returns-clause-agrees
+returns-clause-agrees g c =
+    let a = g.T.Steps.stand c.args.steps.now in
+    let b = g.T.Steps.stand c.store.new.self in
+    let here' = g.T.Steps.here c.store.new.self in
+    subst (λ (m : Keeps). Agrees m b here') (sym c.goes_to.ensures)
+    (born c.args.self.now a (g.T.Steps.here c.args.steps.now) c.requires.agrees c.args.cell c.requires.stage c.mark.result c.mark.ensures b here'
+    c.store.ensures.0 c.store.ensures.1)
+
+pub returns-clause-stands : goal.returns-clause-stands
+returns-clause-stands g c =
+    born_stands c.args.self.now (g.T.Steps.stand c.args.steps.now) (g.T.Steps.here c.args.steps.now) c.requires.agrees c.args.cell c.requires.stage
+    c.mark.result c.mark.ensures (g.T.Steps.stand c.store.new.self) (g.T.Steps.here c.store.new.self) c.store.ensures.0 c.store.ensures.1
