@@ -25,11 +25,14 @@ use Rattle.kn_steps.specs.Made.{LieAs, Made, Stand}
 use Rattle.kn_alloc.specs.declared.stage.Hand.{Hand}
 use Rattle.kn_alloc.specs.declared.stage.Stage.{Stage}
 use Rattle.kn_alloc.specs.declared.stage.Stage.TheVariants.{Clears, Bears}
+use Rattle.kn_alloc.specs.declared.stage.AllocTurn.TheVariants.{Moved}
 use Rattle.kn_alloc.specs.Keeps.{Keeps, HasHand, stage_after, word_at}
 use Rattle.kn_alloc.specs.Agree.{Agrees, AtStage, InHand, IsCleared, IsHeld, IsStaged, IsToClear, cut_open, held_as}
+use Rattle.kn_alloc.specs.Tells.{TellsView}
 use Rattle.kn_alloc.proofs.Hands.{at_is, hands_are, held_are, still_in_hand}
 use Rattle.kn_alloc.proofs.Owned.{asks_still, own_else, own_here, same_hand, same_open}
 use Rattle.kn_alloc.proofs.Stages.{goes_to}
+use Rattle.kn_alloc.proofs.Told.{tells_on}
 
 -- what is to be cleared is a word of the cell
 pub near_end : (m : Keeps) (a : Stand) (here : ℕ → Bool) (cell : Span) (i : ℕ) → AtStage (Clears cell i) m a here →
@@ -128,6 +131,18 @@ module _ (m : Keeps) (a : Stand) (here : ℕ → Bool) (g : Agrees m a here) (ce
   may_clear zero is word = may_begin is word
   may_clear (suc i) is word = may_go_on i is word
 
+  -- the view has one word more cleared
+  went_view : (i : ℕ) (is : m.stage ≡ Clears cell (suc i)) (b : Stand) (here' : ℕ → Bool) (f : Found) →
+      Made a here (does K12 (Body (cell.start + suc i)) (Stores w)) f b here' →
+      let taken = (at_is m a here g (Clears cell (suc i)) is).0.taken in
+      b ≡ record a { view = record a.view { taken = Some (record taken { cleared = taken.cleared + 1 }) } }
+  went_view i is b here' f made =
+      let due = (at_is m a here g (Clears cell (suc i)) is).0 in
+      let v = a.view in
+      made.view
+      ∙ (λ t. record a { view = logged (clear_at a.heap a.by v (Body (cell.start + suc i)) (Stores w) f v.position (due.is_taken t)) })
+      ∙ (λ t. record a { view = logged (clear_at a.heap a.by v (Body (cell.start + suc i)) (Stores w) f (due.asks.is_call t) (Some due.taken)) })
+
   -- a next word was cleared
   pub went_on : (i : ℕ) (is : m.stage ≡ Clears cell (suc i)) (b : Stand) (here' : ℕ → Bool) (f : Found) →
       Made a here (does K12 (Body (cell.start + suc i)) (Stores w)) f b here' → Agrees (record m { stage = next_stage cell (suc (suc i)) }) b here'
@@ -138,9 +153,7 @@ module _ (m : Keeps) (a : Stand) (here : ℕ → Bool) (g : Agrees m a here) (ce
       let s' = next_stage cell (suc (suc i)) in
       let taken' : Taken = record due.taken { cleared = due.taken.cleared + 1 } in
       let v' : View = record v { taken = Some taken' } in
-      let view : b ≡ record a { view = v' } = made.view
-      ∙ (λ t. record a { view = logged (clear_at a.heap a.by v (Body (cell.start + suc i)) (Stores w) f v.position (due.is_taken t)) })
-      ∙ (λ t. record a { view = logged (clear_at a.heap a.by v (Body (cell.start + suc i)) (Stores w) f (due.asks.is_call t) (Some due.taken)) }) in
+      let view : b ≡ record a { view = v' } = went_view i is b here' f made in
       let n = due.cleared in
       let tells = eqb_tells (suc (suc i)) cell.len in
       subst (λ (b : Stand). Agrees (record m { stage = s' }) b here') (sym view)
@@ -282,6 +295,25 @@ module _ (m : Keeps) (a : Stand) (here : ℕ → Bool) (g : Agrees m a here) (ce
             ends = due.ends;
           }) tells;
         })
+
+  first_tells : (is : m.stage ≡ Clears cell 0) → WordsHaveFrames → (b : Stand) (here' : ℕ → Bool) (f : Found) →
+      Made a here (does K12 (Body (cell.start + 0)) (Stores w)) f b here' → TellsView m.stage Moved a b
+  first_tells is law b here' f made =
+      let u = v' is law in
+      tells_on m.stage a b u.owned a.view.seen a.view.refused u.taken a.view.sweep (began is law b here' f made)
+
+  next_tells : (i : ℕ) (is : m.stage ≡ Clears cell (suc i)) (b : Stand) (here' : ℕ → Bool) (f : Found) →
+      Made a here (does K12 (Body (cell.start + suc i)) (Stores w)) f b here' → TellsView m.stage Moved a b
+  next_tells i is b here' f made =
+      let taken = (at_is m a here g (Clears cell (suc i)) is).0.taken in
+      tells_on m.stage a b a.view.owned a.view.seen a.view.refused (Some (record taken { cleared = taken.cleared + 1 })) a.view.sweep
+      (went_view i is b here' f made)
+
+  -- what is left of the view
+  pub cleared_tells : WordsHaveFrames → (i : ℕ) (is : m.stage ≡ Clears cell i) (b : Stand) (here' : ℕ → Bool) (f : Found) →
+      Made a here (does K12 (Body (cell.start + i)) (Stores w)) f b here' → TellsView m.stage Moved a b
+  cleared_tells law zero is b here' f made = first_tells is law b here' f made
+  cleared_tells law (suc i) is b here' f made = next_tells i is b here' f made
 
   pub cleared : WordsHaveFrames → (i : ℕ) (is : m.stage ≡ Clears cell i) (b : Stand) (here' : ℕ → Bool) (f : Found) →
       Made a here (does K12 (Body (cell.start + i)) (Stores w)) f b here' → Agrees (record m { stage = stage_after cell i }) b here'

@@ -46,6 +46,24 @@ sent m a here g is class hand had word e here' lies =
       at = (at_is m a here g Resting is, home_then m a here g Resting is plain none class hand had here' lies s' (λ z class k p o. refl) word e);
     }
 
+-- outside a call a frame is given back, and nothing is answered
+module _ (a b : Stand) (here here' : ℕ → Bool) (p word : ℕ) (f : Found) (made : Made a here (does K11 (Frame p) (Stores word)) f b here') where
+  home_is : (position : Position) → IsNoCall position →
+      home_at a.heap a.by a.view (Frame p) (Stores word) f position ≡ quietly (given_back a.heap a.by a.view (Frame p) (Stores word) f)
+  home_is positions.Out h = refl
+  home_is positions.Entering h = refl
+  home_is positions.Between h = refl
+  home_is (positions.Calling call) h = absurd h
+  home_is (positions.Writing r w n) h = refl
+  home_is (positions.Dropping x) h = refl
+  home_is (positions.Adding n) h = refl
+  home_is positions.Waiting h = refl
+  home_is positions.Leaving h = refl
+  home_is positions.Ended h = refl
+
+  pub given_view : IsNoCall a.view.position → b ≡ record a { view = record a.view { owned = slice_set a.view.owned p None } }
+  given_view no_call = made.view ∙ (λ t. record a { view = logged (home_is a.view.position no_call t) })
+
 module _ (m : Keeps) (a : Stand) (here : ℕ → Bool) (g : Agrees m a here) (p word : ℕ) (is : m.stage ≡ Homing p word) where
   due : IsQuiet a.view × GoesHome a.heap.sizes a.view here p word
   due = at_is m a here g (Homing p word) is
@@ -54,25 +72,12 @@ module _ (m : Keeps) (a : Stand) (here : ℕ → Bool) (g : Agrees m a here) (p 
   unfolding due
   may_give_home = may_give_back m a here g (Homing p word) is (λ z class k p o. refl) p word (λ q h. h) due.1 due.0.0 due.0.1
 
-  home_is : (f : Found) (position : Position) → IsNoCall position →
-      home_at a.heap a.by a.view (Frame p) (Stores word) f position ≡ quietly (given_back a.heap a.by a.view (Frame p) (Stores word) f)
-  home_is f positions.Out h = refl
-  home_is f positions.Entering h = refl
-  home_is f positions.Between h = refl
-  home_is f (positions.Calling call) h = absurd h
-  home_is f (positions.Writing r w n) h = refl
-  home_is f (positions.Dropping x) h = refl
-  home_is f (positions.Adding n) h = refl
-  home_is f positions.Waiting h = refl
-  home_is f positions.Leaving h = refl
-  home_is f positions.Ended h = refl
-
   pub gave_home : (b : Stand) (here' : ℕ → Bool) (f : Found) → Made a here (does K11 (Frame p) (Stores word)) f b here' → IsNoCall a.view.position →
       Agrees (record m { stage = Resting }) b here'
-  unfolding due home_is
+  unfolding due
   gave_home b here' f made no_call =
       let v' : View = record a.view { owned = slice_set a.view.owned p None } in
-      let view : b ≡ record a { view = v' } = made.view ∙ (λ t. record a { view = logged (home_is f a.view.position no_call t) }) in
+      let view : b ≡ record a { view = v' } = given_view a b here here' p word f made no_call in
       let lies = subst (λ (b : Stand). LieAs b.view here here') view made.lies in
       subst (λ (b : Stand). Agrees (record m { stage = Resting }) b here') (sym view) (record {
         good = g.good;

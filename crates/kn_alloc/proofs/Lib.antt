@@ -4,6 +4,7 @@ mod HomeWords
 mod Tries
 mod Hands
 mod Owned
+mod Told
 mod Stages
 mod Clears
 mod Returns
@@ -13,5 +14,7 @@ mod Searched
 mod Tried
 mod Comes
 mod Starts
-mod Turns
+pub mod Turns
 mod Goes
+pub mod Homes
+pub mod Agreements

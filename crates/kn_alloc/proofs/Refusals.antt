@@ -7,7 +7,6 @@ use Rattle.kn_base.specs.declared.heap.Sizes.{Sizes}
 use Rattle.kn_base.specs.declared.places.Place.TheVariants.{Frame}
 use Rattle.kn_base.proofs.Updates.{split_at}
 use Rattle.kn_graph.specs.declared.calls.Call.{Call}
-use Rattle.kn_rule.specs.declared.positions.Position.TheVariants.{Between}
 use Rattle.kn_rule.specs.declared.steps.Action.TheVariants.{Stores}
 use Rattle.kn_rule.specs.declared.steps.Kind.TheVariants.{K11}
 use Rattle.kn_rule.specs.Allowed.{MayGiveBack}
@@ -22,10 +21,13 @@ use Rattle.kn_store.specs.Agree.{KnowsSame, TellsOver}
 use Rattle.kn_alloc.specs.declared.stage.Hand.{Hand}
 use Rattle.kn_alloc.specs.declared.stage.Stage.{Stage}
 use Rattle.kn_alloc.specs.declared.stage.Stage.TheVariants.{Homes, Resting, Searches}
+use Rattle.kn_alloc.specs.declared.stage.AllocTurn.TheVariants.{Moved, Full}
 use Rattle.kn_alloc.specs.Keeps.{HasHand, Keeps}
 use Rattle.kn_alloc.specs.Agree.{Agrees, GoesHome, InHand, IsHeld, IsStaged, IsToRefuse, held_as}
 use Rattle.kn_alloc.proofs.Hands.{at_is, hands_are, held_are, still_in_hand}
+use Rattle.kn_alloc.specs.Tells.{TellsView}
 use Rattle.kn_alloc.proofs.Owned.{asks_still, own_else, own_here}
+use Rattle.kn_alloc.proofs.Told.{tells_full, tells_on}
 
 -- a frame that is given back: what a view owns then, and which pages are in hand
 module _ (m : Keeps) (a : Stand) (here : ℕ → Bool) (g : Agrees m a here) (s : Stage) (is : m.stage ≡ s)
@@ -184,6 +186,15 @@ module _ (m : Keeps) (a : Stand) (here : ℕ → Bool) (g : Agrees m a here) (p 
           at = (due.search.none_taken, due.search.asks.none_swept);
         })
 
-    pub ended_stands : IsOver q' → b.view.position ≡ Between
+    pub refused_tells : ¬ IsOver q' → TellsView m.stage Moved a b
     unfolding due keeps
-    ended_stands ended = ap (λ (b : Stand). b.view.position) (view_by true (told.1 ended))
+    refused_tells going =
+        let false_is : over due.search.asks.call ≡ false = not_true (over due.search.asks.call) (λ e. going (told.0 e))
+        (cases_Bool (over due.search.asks.call)) in
+        tells_on m.stage a b refused_view.owned a.view.seen refused_view.refused a.view.taken a.view.sweep (view_by false false_is)
+
+    pub ended_tells : IsOver q' → TellsView m.stage Full a b
+    unfolding due keeps
+    ended_tells ended =
+        tells_full m.stage a b refused_view.owned a.view.seen refused_view.refused a.view.taken a.view.sweep due.search.asks.call
+        due.search.asks.is_call (view_by true (told.1 ended))

@@ -1,6 +1,6 @@
 -- What a turn of the search leaves.
 use Rattle.std.proofs.Common.{◌≡◌, ◌≢◌, ℕ, ◌+◌, ◌<◌, ◌≤◌, ◌==◌, ◌⊎◌, inl, inr, Bool, true, false, cond, refl, sym, ap}
-use Rattle.std.proofs.Common.{◌∙◌, subst, arith}
+use Rattle.std.proofs.Common.{◌∙◌, subst, arith, Some, slice_set, eq-eqb}
 use Rattle.std.proofs.lemmas.Bool.{cases_eq}
 use Rattle.std.proofs.lemmas.Bool.Decides.{leb_tells}
 use Rattle.std.proofs.Math.Dec.{leb}
@@ -16,18 +16,23 @@ use Rattle.kn_rule.specs.declared.steps.Action.TheVariants.{Swaps}
 use Rattle.kn_rule.specs.declared.steps.Kind.TheVariants.{K10}
 use Rattle.kn_rule.specs.Decoding.{frame_of}
 use Rattle.kn_rule.specs.Requests.{InArea, area_count, area_from, is_usable, owned_word}
-use Rattle.kn_rule.specs.Steps.{Found as WasFound, Step, does}
+use Rattle.kn_rule.specs.Outcomes.{claimed_if, sweep_begun}
+use Rattle.kn_rule.specs.Steps.{Found as WasFound, Step, does, logged}
 use Rattle.kn_steps.specs.Made.{Made, Stand}
 use Rattle.kn_store.specs.declared.look.Look.{Look}
 use Rattle.kn_store.specs.declared.look.Look.TheVariants.{Looking, Found, Full}
 use Rattle.kn_store.specs.Search.{Claims, IsOver, IsTurnOf, Search, first_of}
 use Rattle.kn_store.specs.Agree.{Agrees as SearchAgrees, OnlySaw, SawFull}
+use Rattle.kn_alloc.specs.declared.stage.Stage.{Stage}
 use Rattle.kn_alloc.specs.declared.stage.Stage.TheVariants.{Searches, Takes}
+use Rattle.kn_alloc.specs.declared.stage.AllocTurn.TheVariants.{Moved}
 use Rattle.kn_alloc.specs.Keeps.{Keeps, found_stage, stage_behind}
-use Rattle.kn_alloc.specs.Turns.{StandsAs, answer_of}
+use Rattle.kn_alloc.specs.Turns.{answer_of}
+use Rattle.kn_alloc.specs.Tells.{TellsView}
 use Rattle.kn_alloc.specs.Agree.{Agrees, IsSweeping}
 use Rattle.kn_alloc.proofs.Claims.{ParamsKeep, due, saw_full, saw_one, won}
 use Rattle.kn_alloc.proofs.Returns.{class_fits}
+use Rattle.kn_alloc.proofs.Told.{tells_full, tells_on}
 
 -- each frame of the area of a class belongs to it
 pub in_area_by : (z : Sizes) (class i : ℕ) → class ≤ SINGLE_CLASS → i < area_count z class →
@@ -119,9 +124,31 @@ module _ (m : Keeps) (a : Stand) (here : ℕ → Bool) (g : Agrees m a here) (is
       by (inl e) = by_kind p old c e (frame_of old).kind refl still
       by (inr ne) = absurd (c.lost ne).1
 
--- behind Full the caller stands between calls
-pub search_stands : (a : Stand) (here : ℕ → Bool) (b : Stand) (here' : ℕ → Bool) (look : Look) → (look ≡ Full → SawFull a here b here') →
-    StandsAs (answer_of look) b.view.position
-search_stands a here b here' Looking ended = tt
-search_stands a here b here' (Found p w) ended = tt
-search_stands a here b here' Full ended = ap (λ (b : Stand). b.view.position) (ended refl).view
+-- what a turn of the search leaves of the view
+module _ (stage : Stage) (a : Stand) (here : ℕ → Bool) (b : Stand) (here' : ℕ → Bool) (q q' : Search) (d : Step) (f : WasFound)
+    (made : Made a here d f b here') where
+  -- a frame was claimed
+  claim_tells : (k old new : ℕ) → d ≡ does K10 (Frame k) (Swaps old new) → f.word ≡ old → TellsView stage Moved a b
+  claim_tells k old new step word =
+      let made = subst (λ d. Made a here d f b here') step made in
+      let v = a.view in
+      tells_on stage a b (slice_set v.owned k (Some (record { word = new; free = f.page.free; cursor = f.page.cursor }))) v.seen v.refused v.taken
+      (sweep_begun a.heap.sizes k (frame_of old).kind)
+      (made.view ∙ (λ t. record a { view = logged (claimed_if a.heap a.by v (Frame k) (Swaps old new) f (eq-eqb f.word old word t)) }))
+
+  pub search_tells : (look : Look) → IsTurnOf q d f.word q' look → (look ≡ Looking → OnlySaw a here b here') →
+      (look ≡ Full → SawFull a here b here') → TellsView stage (answer_of look) a b
+  search_tells Looking turn saw ended =
+      let v = a.view in
+      let h = saw refl in
+      tells_on stage a b v.owned h.seen v.refused v.taken v.sweep h.view
+  search_tells Full turn saw ended =
+      let v = a.view in
+      let h = ended refl in
+      tells_full stage a b v.owned h.seen v.refused v.taken v.sweep h.call h.is_call h.view
+  search_tells (Found p old) (inl l) saw ended = absurd l.answer
+  search_tells (Found p old) (inr c) saw ended = by (cases_eq f.word c.best.word)
+    where
+      by : (f.word ≡ c.best.word) ⊎ (f.word ≢ c.best.word) → TellsView stage Moved a b
+      by (inl e) = claim_tells (first_of q + c.number) c.best.word (packed_frame (owned_word (frame_of c.best.word) q.class q.epoch q.by)) c.step e
+      by (inr ne) = absurd (c.lost ne).1

@@ -4,7 +4,6 @@ use Rattle.std.proofs.lemmas.Option.{none-some}
 use Rattle.kn_base.specs.declared.heap.Sizes.{Sizes}
 use Rattle.kn_base.specs.declared.numbers.Span.{Span}
 use Rattle.kn_base.specs.declared.places.Place.TheVariants.{Side}
-use Rattle.kn_rule.specs.declared.positions.Position.TheVariants.{Writing}
 use Rattle.kn_rule.specs.declared.steps.Action.TheVariants.{Stores}
 use Rattle.kn_rule.specs.declared.steps.Kind.TheVariants.{K8}
 use Rattle.kn_rule.specs.Allowed.{MayBirth}
@@ -18,7 +17,10 @@ use Rattle.kn_alloc.specs.declared.stage.Stage.{Stage}
 use Rattle.kn_alloc.specs.declared.stage.Stage.TheVariants.{Resting, TooLong, Bears}
 use Rattle.kn_alloc.specs.Keeps.{Keeps}
 use Rattle.kn_alloc.specs.Agree.{Agrees, AtStage, IsCleared, IsHeld, IsStaged, held_as}
+use Rattle.kn_alloc.specs.declared.stage.AllocTurn.TheVariants.{Born}
+use Rattle.kn_alloc.specs.Tells.{TellsView}
 use Rattle.kn_alloc.proofs.Hands.{at_is, hands_are, held_are, still_in_hand}
+use Rattle.kn_alloc.proofs.Told.{tells_born}
 
 -- a stage that leaves the hands as they are, behind a step that changes nothing of what is owned
 module _ (m : Keeps) (a : Stand) (here : ℕ → Bool) (g : Agrees m a here) (s : Stage) (is : m.stage ≡ s) (s' : Stage)
@@ -91,10 +93,11 @@ module _ (m : Keeps) (a : Stand) (here : ℕ → Bool) (g : Agrees m a here) (ce
       ∙ (λ t. record a { view = logged (birth_said a.heap a.by a.view (Side cell.start) (Stores w) f clear_cell.asks.call (birth.1 t)) }))
 
   -- the address is due for the local of the call
-  pub born_stands : (b : Stand) (here' : ℕ → Bool) (f : Found) → Made a here (does K8 (Side cell.start) (Stores w)) f b here' →
-      (local : ℕ) × (b.view.position ≡ Writing local cell.start 0)
-  unfolding birth
-  born_stands b here' f made = (birth.0.0, ap (λ (b : Stand). b.view.position) (born_view b here' f made))
+  pub born_told : (b : Stand) (here' : ℕ → Bool) (f : Found) → Made a here (does K8 (Side cell.start) (Stores w)) f b here' →
+      TellsView m.stage (Born cell.start) a b
+  unfolding clear_cell birth
+  born_told b here' f made =
+      tells_born m.stage a b cell.start clear_cell.asks.call birth.0 clear_cell.asks.is_call birth.1 (born_view b here' f made)
 
   pub born : (b : Stand) (here' : ℕ → Bool) (f : Found) → Made a here (does K8 (Side cell.start) (Stores w)) f b here' →
       Agrees (record m { stage = Resting }) b here'

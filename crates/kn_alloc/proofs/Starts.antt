@@ -5,6 +5,7 @@ use Rattle.std.proofs.lemmas.Bool.{true≢false}
 use Rattle.std.proofs.lemmas.Bool.Decides.{leb_tells}
 use Rattle.kn_base.specs.declared.heap.Sizes.{Sizes}
 use Rattle.kn_base.specs.declared.classes.TheConstants.{LEAST_CELL, NEXT_FIT_CLASS, SINGLE_CLASS}
+use Rattle.kn_base.specs.Pages.{FrameView}
 use Rattle.kn_base.specs.Sizes.{frame_count}
 use Rattle.kn_base.proofs.Updates.{get_set_else, split_at}
 use Rattle.std.proofs.Math.Dec.{leb}
@@ -20,7 +21,8 @@ use Rattle.kn_alloc.specs.declared.stage.Hand.{Hand}
 use Rattle.kn_alloc.specs.declared.stage.Stage.{Stage}
 use Rattle.kn_alloc.specs.declared.stage.Stage.TheVariants.{Resting, Searches, TooLong}
 use Rattle.kn_alloc.specs.Keeps.{HasHand, Keeps, Starts, Tries, begun}
-use Rattle.kn_alloc.specs.Agree.{Agrees, Asks, HasBegun, InHand, IsHeld, IsStaged, MayRefuse, SearchesFor}
+use Rattle.kn_alloc.specs.Agree.{Agrees, Asks, HasBegun, InHand, IsGetting, IsHeld, IsStaged, MayRefuse, SearchesFor}
+use Rattle.kn_alloc.specs.Tells.{IsKept}
 use Rattle.kn_alloc.proofs.Hands.{at_is, hands_are, held_are, others_in_hand, put_in_hand, still_in_hand}
 use Rattle.kn_alloc.proofs.Owned.{same_hand}
 use Rattle.kn_alloc.proofs.Searched.{in_area_by}
@@ -235,3 +237,20 @@ module _ (m : Keeps) (a : Stand) (here : ℕ → Bool) (g : Agrees m a here) (is
   started m' (inr (fits, inl h)) = subst (λ (k : Keeps). Agrees k a here) (sym h.1) (begun_search fits h.0)
   started m' (inr (fits, inr (hand, had, t))) =
       subst (λ (k : Keeps). Agrees k a here) (sym t.after) (begun_hand fits hand t.left t.stage had t.frame t.stamp t.tries)
+
+tried_gets : (page left : FrameView) (n : ℕ) (stage : Stage) → Tries page n left stage → IsGetting stage
+tried_gets page left n stage (inl t) = subst IsGetting (sym t.2) tt
+tried_gets page left n stage (inr t) = subst IsGetting (sym t.2) tt
+
+-- behind the beginning of a request that is not too long a cell is being got for it
+pub begun_gets : (m : Keeps) (words header epoch : ℕ) (m' : Keeps) → Starts m words header epoch m' →
+    is_too_long m.sizes (class_for m.sizes words) words ≡ false → IsGetting m'.stage
+begun_gets m words header epoch m' (inl h) fits = absurd (true≢false (sym h.0 ∙ fits))
+begun_gets m words header epoch m' (inr (f, inl h)) fits = subst (λ (k : Keeps). IsGetting k.stage) (sym h.1) tt
+begun_gets m words header epoch m' (inr (f, inr (hand, had, t))) fits =
+    subst (λ (k : Keeps). IsGetting k.stage) (sym t.after) (tried_gets (page_view hand.page) (page_view t.left.page) words t.stage t.tries)
+
+pub begun_kept : (m : Keeps) (words header epoch : ℕ) (m' : Keeps) → Starts m words header epoch m' → IsKept m m'
+begun_kept m words header epoch m' (inl h) = subst (IsKept m) (sym h.1) (refl, refl)
+begun_kept m words header epoch m' (inr (f, inl h)) = subst (IsKept m) (sym h.1) (refl, refl)
+begun_kept m words header epoch m' (inr (f, inr (hand, had, t))) = subst (IsKept m) (sym t.after) (refl, refl)

@@ -223,6 +223,14 @@ IsUnderWay (Homing p word) = ⊥
 IsUnderWay (Sweeps p) = ⊥
 IsUnderWay _ = Unit {0}
 
+-- a request is under way that is not too long
+abbrev pub IsGetting : Stage → Type 0
+IsGetting Resting = ⊥
+IsGetting TooLong = ⊥
+IsGetting (Sweeps p) = ⊥
+IsGetting (Homing p word) = ⊥
+IsGetting _ = Unit {0}
+
 -- no page goes out: the stage is at rest, or a page goes home
 abbrev pub IsIdle : Stage → Type 0
 IsIdle Resting = Unit {0}

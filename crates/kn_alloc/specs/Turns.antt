@@ -5,8 +5,6 @@ use Rattle.kn_base.specs.Pages.{FrameView}
 use Rattle.kn_base.specs.declared.numbers.Span.{Span}
 use Rattle.kn_rule.specs.declared.steps.Kind.TheVariants.{K8, K11, K12}
 use Rattle.kn_rule.specs.declared.steps.Action.TheVariants.{Stores}
-use Rattle.kn_rule.specs.declared.positions.Position.{Position}
-use Rattle.kn_rule.specs.declared.positions.Position.TheVariants.{Between, Writing}
 use Rattle.kn_rule.specs.Decoding.{frame_of}
 use Rattle.kn_rule.specs.Steps.{Step, Found, does}
 use Rattle.kn_steps.specs.Made.{Stand, Made, Moved as WasMoved}
@@ -121,14 +119,3 @@ IsFullAt _ search = ⊥
 abbrev pub IsBornAt : Stage → ℕ → Type 0
 IsBornAt (Bears cell) address = cell.start ≡ address
 IsBornAt _ address = ⊥
-
--- where a caller stands behind an answer: between calls behind Full, and with the address due for a local behind a birth
-abbrev pub StandsAs : AllocTurn → Position → Type 0
-StandsAs Full position = position ≡ Between
-StandsAs (Born address) position = (local : ℕ) × (position ≡ Writing local address 0)
-StandsAs Moved position = Unit {0}
-
--- of a request that is too long the view knows nothing
-abbrev pub StandsBehind : Stage → AllocTurn → Position → Type 0
-StandsBehind TooLong reply position = Unit {0}
-StandsBehind _ reply position = StandsAs reply position

@@ -1,11 +1,13 @@
 //! The allocator.
-ghost use Rattle.std.specs.Prelude.{◌≡◌, ℕ, ◌+◌, ◌*◌, ◌<◌, ◌≤◌, ◌↔◌, Bool, IfOk, IsTrue, List, Option, Some, None, length};
-ghost use Rattle.std.specs.Prelude.{replicate, slice_set, true};
+ghost use Rattle.std.specs.Prelude.{◌≡◌, ◌≢◌, ℕ, ◌+◌, ◌*◌, ◌<◌, ◌≤◌, ◌↔◌, Bool, IfOk, IsTrue, List, Option, Some, None};
+ghost use Rattle.std.specs.Prelude.{false, length, replicate, slice_set, true};
 ghost use Rattle.kn_base.specs.Sizes.{IsGood};
 ghost use Rattle.kn_base.specs.declared.classes.TheConstants.{LEAST_CELL};
 ghost use Rattle.kn_base.specs.declared.numbers.Span.{Span};
 ghost use Rattle.kn_rule.specs.Requests;
+ghost use Rattle.kn_rule.specs.Requests.{class_for, is_too_long};
 ghost use Rattle.kn_steps.specs.Made.{Stand};
+ghost use Rattle.kn_steps.specs.Turns.{MetUnswept, OneTurn};
 ghost use Rattle.kn_store.specs.Search.{IsOver, with_refused};
 ghost use Rattle.kn_store.specs.Agree.{Agrees as SearchAgrees, KnowsSame, OnlySaw, SawFull, TellsOver, Turned as SearchTurned};
 ghost use Rattle.kn_store.specs.declared.look.Look.TheVariants.{Looking, Full as LookFull};
@@ -14,9 +16,10 @@ ghost use Rattle.kn_alloc.specs.declared.stage.Stage.TheVariants.{Resting, TooLo
 ghost use Rattle.kn_alloc.specs.declared.stage.AllocTurn.TheVariants.{Moved, Born, Full};
 ghost use Rattle.kn_alloc.specs.Keeps.{AreByClass, IsHeaderOf, Starts, begun, header_asked, new_keeps, readied, stage_after, stage_behind, word_at};
 ghost use Rattle.kn_alloc.specs.Keeps.{words_of_request};
-ghost use Rattle.kn_alloc.specs.Turns.{StandsAs, StandsBehind, Turned, IsBornAt, IsFullAt, BearsCell, ClearsWord, GoesBack, IsDenied, IsRefused, Seeks};
+ghost use Rattle.kn_alloc.specs.Turns.{Turned, IsBornAt, IsFullAt, BearsCell, ClearsWord, GoesBack, IsDenied, IsRefused, Seeks};
 ghost use Rattle.kn_alloc.specs.Turns.{TakesPage};
-ghost use Rattle.kn_alloc.specs.Agree.{Agrees, HasBegun, IsSweeping, IsUnderWay, MayRefuse};
+ghost use Rattle.kn_alloc.specs.Agree.{Agrees, HasBegun, IsGetting, IsSweeping, IsUnderWay, MayRefuse};
+ghost use Rattle.kn_alloc.specs.Tells.{IsBehind, IsKept, TellsView};
 
 use crate::stage::{AllocTurn, Hand, Request, Stage, answer_of, stage_after, stage_behind};
 use kn_base::{Caller, FrameNo, HeaderWord, Place, Sizes, Span};
@@ -99,19 +102,27 @@ impl ThreadAlloc {
         ensures started { Starts self.old (words_of_request request) (header_asked request) epoch self.new }
         ensures agrees { (a : Stand) (here : ℕ → Bool) → Agrees self.old a here
             → HasBegun a (words_of_request request) (header_asked request) epoch → Agrees self.new a here }
+        ensures gets { is_too_long self.old.sizes (class_for self.old.sizes (words_of_request request)) (words_of_request request) ≡ false
+            → IsGetting self.new.stage }
+        ensures kept { IsKept self.old self.new }
     {
         self.starts(request, epoch);
     }
 
     /// Makes the next step or move of the request (`TurnedAt` in `specs/Turns.antt`). It is to be under
     /// way, and not at a sweep. `Full` where the request is too long or the search ends without a frame
-    /// (`IsFullAt`), `Born` in the turn that stores the object's mark (`IsBornAt`).
+    /// (`IsFullAt`), `Born` in the turn that stores the object's mark (`IsBornAt`). What each answer
+    /// leaves of the caller's view is in `specs/Tells.antt`.
     pub fn turn<T: Steps<Page>>(&mut self, steps: &mut T) -> AllocTurn
         requires agrees { Agrees self.old (T.stand steps.old) (T.here steps.old) }
         requires under_way { IsUnderWay self.old.stage }
         ensures turned { Turned T.stand T.here T.did T.moved self.old steps.old steps.new self.new result }
         ensures agrees { (¬ IsSweeping self.new.stage) → Agrees self.new (T.stand steps.new) (T.here steps.new) }
-        ensures stands { StandsBehind self.old.stage result (T.stand steps.new).view.position }
+        ensures tells { TellsView self.old.stage result (T.stand steps.old) (T.stand steps.new) }
+        ensures one { self.old.stage ≢ TooLong → OneTurn T.stand T.here T.did T.moved steps.old steps.new }
+        ensures unswept { IsSweeping self.new.stage → MetUnswept T.stand T.here T.did T.moved steps.old steps.new }
+        ensures behind { IsBehind result self.new.stage }
+        ensures kept { IsKept self.old self.new }
         ensures full { (result ≡ Full) ↔ IsFullAt self.old.stage self.new.search }
         ensures born { (address : ℕ) → (result ≡ Born address) ↔ IsBornAt self.old.stage address }
     {
@@ -123,7 +134,7 @@ impl ThreadAlloc {
         requires under_way { IsUnderWay self.old.stage }
         ensures turned { Turned T.stand T.here T.did T.moved self.old steps.old steps.new self.new result }
         ensures agrees { (¬ IsSweeping self.new.stage) → Agrees self.new (T.stand steps.new) (T.here steps.new) }
-        ensures stands { StandsBehind self.old.stage result (T.stand steps.new).view.position }
+        ensures tells { TellsView self.old.stage result (T.stand steps.old) (T.stand steps.new) }
     {
         match self.stage {
             Stage::TooLong => self.denies(steps),
@@ -142,6 +153,7 @@ impl ThreadAlloc {
         requires stage { self.old.stage ≡ TooLong }
         ensures turned { IsDenied T.stand T.here T.did T.moved self.old steps.old steps.new self.new result }
         ensures agrees { Agrees self.new (T.stand steps.new) (T.here steps.new) }
+        ensures tells { TellsView self.old.stage result (T.stand steps.old) (T.stand steps.new) }
     {
         self.goes_to(Stage::Resting);
         AllocTurn::Full
@@ -152,7 +164,7 @@ impl ThreadAlloc {
         requires stage { self.old.stage ≡ Returns }
         ensures turned { GoesBack T.stand T.here T.did T.moved self.old steps.old steps.new self.new result }
         ensures agrees { Agrees self.new (T.stand steps.new) (T.here steps.new) }
-        ensures stands { StandsAs result (T.stand steps.new).view.position }
+        ensures tells { TellsView self.old.stage result (T.stand steps.old) (T.stand steps.new) }
     {
         let hand = self.hand_out(self.class_asked());
         let word = hand.home_word();
@@ -167,7 +179,7 @@ impl ThreadAlloc {
         requires stage { self.old.stage ≡ Homes frame word }
         ensures turned { IsRefused T.stand T.here T.did T.moved frame word self.old steps.old steps.new self.new result }
         ensures agrees { Agrees self.new (T.stand steps.new) (T.here steps.new) }
-        ensures stands { StandsAs result (T.stand steps.new).view.position }
+        ensures tells { TellsView self.old.stage result (T.stand steps.old) (T.stand steps.new) }
     {
         steps.store(Place::Frame(frame), word, Kind::K11);
         if self.refuses(frame) {
@@ -184,7 +196,7 @@ impl ThreadAlloc {
         requires stage { self.old.stage ≡ Searches }
         ensures turned { Seeks T.stand T.here T.did T.moved self.old steps.old steps.new self.new result }
         ensures agrees { (¬ IsSweeping self.new.stage) → Agrees self.new (T.stand steps.new) (T.here steps.new) }
-        ensures stands { StandsAs result (T.stand steps.new).view.position }
+        ensures tells { TellsView self.old.stage result (T.stand steps.old) (T.stand steps.new) }
     {
         let look = self.seeks(steps);
         self.goes_to(stage_behind(look));
@@ -222,7 +234,7 @@ impl ThreadAlloc {
         requires stage { self.old.stage ≡ Takes frame old }
         ensures turned { TakesPage T.stand T.here T.did T.moved frame old self.old steps.old steps.new self.new result }
         ensures agrees { Agrees self.new (T.stand steps.new) (T.here steps.new) }
-        ensures stands { StandsAs result (T.stand steps.new).view.position }
+        ensures tells { TellsView self.old.stage result (T.stand steps.old) (T.stand steps.new) }
     {
         match steps.move_page(FrameNo(frame), None) {
             Some(page) => {
@@ -239,7 +251,7 @@ impl ThreadAlloc {
         requires stage { self.old.stage ≡ Clears cell number }
         ensures turned { ClearsWord T.stand T.here T.did T.moved cell number self.old steps.old steps.new self.new result }
         ensures agrees { Agrees self.new (T.stand steps.new) (T.here steps.new) }
-        ensures stands { StandsAs result (T.stand steps.new).view.position }
+        ensures tells { TellsView self.old.stage result (T.stand steps.old) (T.stand steps.new) }
     {
         frame_law();
         steps.store(
@@ -256,7 +268,7 @@ impl ThreadAlloc {
         requires stage { self.old.stage ≡ Bears cell }
         ensures turned { BearsCell T.stand T.here T.did T.moved cell self.old steps.old steps.new self.new result }
         ensures agrees { Agrees self.new (T.stand steps.new) (T.here steps.new) }
-        ensures stands { StandsAs result (T.stand steps.new).view.position }
+        ensures tells { TellsView self.old.stage result (T.stand steps.old) (T.stand steps.new) }
     {
         steps.store(Place::Side(cell.start), self.mark(), Kind::K8);
         self.goes_to(Stage::Resting);

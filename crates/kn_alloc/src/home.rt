@@ -2,12 +2,14 @@
 ghost use Rattle.std.specs.Prelude.{◌≡◌, ℕ, ◌<◌, ◌↔◌, IsTrue, MatchOption, None};
 ghost use Rattle.kn_base.specs.declared.classes.TheConstants.{SINGLE_CLASS};
 ghost use Rattle.kn_rule.specs.Views.{owns};
+ghost use Rattle.kn_steps.specs.Turns.{OneTurn};
 ghost use Rattle.kn_alloc.specs.declared.stage.Hand.{Hand};
 ghost use Rattle.kn_alloc.specs.declared.stage.Stage.TheVariants.{Homing, Resting};
-ghost use Rattle.kn_alloc.specs.declared.stage.HomeTurn.TheVariants.{Done};
+ghost use Rattle.kn_alloc.specs.declared.stage.HomeTurn.TheVariants.{Done, Moved};
 ghost use Rattle.kn_alloc.specs.Keeps.{HasHand};
 ghost use Rattle.kn_alloc.specs.Homes.{IsFirstHome, IsGivenBack, IsNoHand, SendsHome, WentHome};
 ghost use Rattle.kn_alloc.specs.Agree.{Agrees, IsIdle, IsNoCall};
+ghost use Rattle.kn_alloc.specs.Tells.{IsKept, TellsHome};
 
 use crate::alloc::{CLASSES, ThreadAlloc};
 use crate::stage::{Hand, HomeTurn, Stage};
@@ -21,6 +23,22 @@ impl ThreadAlloc {
     /// those of rising classes, two turns each. `Done` where the caller owns no frame; then nothing is
     /// done. No request is to be under way, and no call of the caller at its steps (`Calling`).
     pub fn put_home_turn<T: Steps<Page>>(&mut self, steps: &mut T) -> HomeTurn
+        requires agrees { Agrees self.old (T.stand steps.old) (T.here steps.old) }
+        requires idle { IsIdle self.old.stage }
+        requires no_call { IsNoCall (T.stand steps.old).view.position }
+        ensures went { WentHome T.stand T.here T.did T.moved self.old steps.old steps.new self.new result }
+        ensures agrees { Agrees self.new (T.stand steps.new) (T.here steps.new) }
+        ensures tells { TellsHome (T.stand steps.old) (T.stand steps.new) }
+        ensures one { (result ≡ Moved) → OneTurn T.stand T.here T.did T.moved steps.old steps.new }
+        ensures still { (result ≡ Done) → (steps.new ≡ steps.old) × (self.new ≡ self.old) × (self.new.stage ≡ Resting) }
+        ensures idle { IsIdle self.new.stage }
+        ensures kept { IsKept self.old self.new }
+        ensures done { (result ≡ Done) ↔ ((p : ℕ) → owns (T.stand steps.old).view p ≡ None) }
+    {
+        self.goes_home(steps)
+    }
+
+    fn goes_home<T: Steps<Page>>(&mut self, steps: &mut T) -> HomeTurn
         requires agrees { Agrees self.old (T.stand steps.old) (T.here steps.old) }
         requires idle { IsIdle self.old.stage }
         requires no_call { IsNoCall (T.stand steps.old).view.position }
@@ -43,6 +61,13 @@ impl ThreadAlloc {
         ensures { IsTrue result ↔ ((hand : Hand) × HasHand self.now.hands SINGLE_CLASS hand) }
     {
         self.has_hand(SINGLE_CLASS)
+    }
+
+    /// Whether no request is under way and no page goes home.
+    pub fn is_resting(&self) -> bool
+        ensures { IsTrue result ↔ (self.now.stage ≡ Resting) }
+    {
+        matches!(self.stage, Stage::Resting)
     }
 
     fn has_hand(&self, class: u16) -> bool

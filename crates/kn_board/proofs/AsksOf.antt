@@ -42,7 +42,8 @@ use Rattle.kn_board.specs.Stored.{HoldsFit, hold_at}
 use Rattle.kn_board.specs.Asks.{Asks, AsksPoll, AsksState, AsksWrite, AsksGlobal, AsksBirth, AsksFrame, AsksClaim, AsksHome, AsksClear, AsksNext}
 use Rattle.kn_board.proofs.ClaimFits.{usable_free}
 use Rattle.kn_board.proofs.Holdings.{owns_stored, owner}
-use Rattle.kn_board.proofs.SmallWords.{phase_small, calls_few, written_small, global_small, global_readable, body_readable}
+use Rattle.kn_keep_heap.proofs.SmallWords.{phase_small}
+use Rattle.kn_board.proofs.SmallWords.{calls_few, written_small, global_small, global_readable, body_readable}
 
 none_or : {A : Type 0} (o : Option A) → ((x : A) → o ≡ Some x → ⊥) → o ≡ None
 none_or None h = refl

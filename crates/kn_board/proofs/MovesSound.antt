@@ -87,4 +87,4 @@ module _ (w : World) (good : IsGoodGround w.heap) (s : State) (rule : Rule w.hea
 
   -- what it tells its caller
   pub moved_told : Moved (stand_at by w) (lies_at w) k page (slot_at w k) (stand_at by moved) (lies_at moved)
-  moved_told = record { view = refl; lies = λ j o e. lies_after j; gives = gives_at page may.2 }
+  moved_told = record { may = may; view = refl; lies = λ j o e. lies_after j; gives = gives_at page may.2 }

@@ -1,13 +1,9 @@
--- Words that are kept in fewer bits: addresses, phases, and numbers of calls.
+-- Words that are kept in fewer bits: addresses, and numbers of calls.
 use Rattle.std.proofs.Common.{◌≡◌, ℕ, ◌+◌, ◌^◌, ◌<◌, ◌≤◌, Bool, length, Option, Some, None, refl, sym, ap, ◌∙◌, subst, arith}
 use Rattle.std.proofs.Common.{slice_index, sum}
 use Rattle.std.proofs.lemmas.List.Sums.{get_or-le-sum_by}
 use Rattle.kn_base.specs.declared.heap.Sizes.{Sizes}
 use Rattle.kn_base.specs.declared.places.Place.TheVariants.{Global, Body}
-use Rattle.kn_base.specs.declared.phase_word.PhaseWord.{PhaseWord}
-use Rattle.kn_base.specs.declared.kinds.Code.{Code}
-use Rattle.kn_base.specs.declared.kinds.Code.TheVariants as codes
-use Rattle.kn_base.specs.Kinds.{code_number}
 use Rattle.kn_base.specs.Sizes.{IsGood}
 use Rattle.kn_graph.specs.declared.calls.Call.TheVariants.{Copy, Clear, Get, GlobalGet}
 use Rattle.kn_layout.specs.declared.layouts.FieldKind.TheVariants.{Ref as of_ref}
@@ -16,29 +12,15 @@ use Rattle.kn_graph.specs.Graph.{Graph, shapes}
 use Rattle.kn_graph.specs.Sound.{Alive}
 use Rattle.kn_rule.specs.declared.positions.Position.{Position}
 use Rattle.kn_rule.specs.declared.positions.Position.TheVariants.{Calling, Writing}
-use Rattle.kn_rule.specs.Decoding.{PacksPhase, phase_of}
 use Rattle.kn_rule.specs.Views.{State, views_of, local_of}
 use Rattle.kn_rule.specs.Allowed.{MayWriteAt, MayLoadAt, MayReadGlobalAt}
 use Rattle.kn_rule.specs.ObjectClauses.{IsValueDue, address_of}
 use Rattle.kn_rule.specs.Rule.{RuleOf}
-use Rattle.kn_rule.proofs.FrameSpans.{in_heap, is_span_of}
 use Rattle.kn_keep_heap.proofs.Values.{below_sixteen}
 use Rattle.kn_keep_heap.proofs.ReadLaws.{ranges, snd}
+use Rattle.kn_keep_heap.proofs.SmallWords.{address_small as address_is_small, local_small as local_is_small}
 use Rattle.kn_keep_heap.proofs.FieldLaws.{object_named, object_alive, kind_is, place_is}
 use Rattle.kn_view.specs.Parts.{IsReadable, new_part}
-
-code_small : (c : Code) → code_number c < 8
-code_small codes.Idle = omega arith
-code_small codes.StopA = omega arith
-code_small codes.Mark = omega arith
-code_small codes.Weak = omega arith
-code_small codes.StopB = omega arith
-code_small codes.Prep = omega arith
-code_small codes.Sweep = omega arith
-
--- the word of a phase
-pub phase_small : (w : ℕ) → PacksPhase w → w < 2 ^ 35
-phase_small w p = let v : PhaseWord = phase_of w in let r = p.right in let e = p.ranges in let c = code_small v.code in omega arith
 
 -- the calls of a thread are counted in few bits
 pub calls_few : (z : Sizes) → IsGood z → (c : ℕ) → c < z.threads → (slice_index z.calls c ≤ 16384) × (slice_index z.births c ≤ 16384)
@@ -56,18 +38,11 @@ module _ (z : Ground) (good : IsGoodGround z) (s : State) (by : ℕ) (less : by 
   Readable q h w = IsReadable (record (new_part z) { position = q; header = h }) w
 
   -- the address of a value
-  pub address_small : (x : Option ℕ) → Alive g.born (shapes g) x → address_of (shapes g) x < 2 ^ 32
-  address_small None a = omega arith
-  address_small (Some n) a =
-      let p = ((snd z s by less g rule).cells n a.0).placed in
-      let l : p.frame < z.sizes.small + z.sizes.large + z.sizes.extra = let x = p.is_for_cells in omega arith in
-      let span = is_span_of z.sizes p.frame p.words p.is_frame in
-      let e = (in_heap z.sizes good.sizes p.frame l).2 in let i = p.inside.1 in let few = good.sizes.of_frames.words.1 in
-      let b = ap (λ (x : Rattle.kn_base.specs.declared.numbers.Span.Span). Rattle.kn_base.specs.Spans.end_of x) span in omega arith
+  address_small : (x : Option ℕ) → Alive g.born (shapes g) x → address_of (shapes g) x < 2 ^ 32
+  address_small x a = let l = address_is_small z good s by less g rule x a in omega arith
 
-  pub local_small : (r : ℕ) → r < 16 → local_of (s.caller by) r < 2 ^ 32
-  local_small r l =
-      subst (λ w. w < 2 ^ 32) (sym (rule.localed.views by r less l)) (address_small (g.local by r) ((snd z s by less g rule).roots.locals by r))
+  local_small : (r : ℕ) → r < 16 → local_of (s.caller by) r < 2 ^ 32
+  local_small r l = let e = local_is_small z good s by less g rule r l in omega arith
 
   -- the value that a store writes into a local
   pub written_small : (r w : ℕ) (q : Position) → (s.caller by).position ≡ q → MayWriteAt z by (s.caller by) here q r w → r < 16 → w < 2 ^ 32

@@ -43,6 +43,7 @@ module _ (w : World) (good : IsGoodGround w.heap) (s : State) (rule : Rule w.hea
 
     pub step_made : Made (stand_at by w) here d f (stand_at by (world_after w by d f)) (lies_at (world_after w by d f))
     step_made = record {
+      may = may;
       view = λ t. record { heap = w.heap; by = by; view = my_view t };
       lies = λ p o e. lies_by d.kind (frame_in d.place) (word_wanted d.act) lies p;
       shown = step_shown w good s rule h by less f d may is lies;

@@ -91,3 +91,24 @@ stand_at c w = record { heap = w.heap; by = c; view = view_at w c }
 -- a page lies in the slot of the frame
 abbrev pub lies_at : World → ℕ → Bool
 lies_at w p = is_some (slot_at w p)
+
+-- a board with the caller whose steps are made
+pub record Seat : Type 0 where
+  pub by : ℕ
+  pub board : World
+
+abbrev pub seat : ℕ → World → Seat
+seat c w = record { by = c; board = w }
+
+abbrev pub seat_stand : Seat → Stand
+seat_stand s = stand_at s.by s.board
+
+abbrev pub seat_here : Seat → ℕ → Bool
+seat_here s = lies_at s.board
+
+-- a step and a move of the seat's caller
+abbrev pub SeatDid : Seat → Step → Found → Seat → Type 0
+SeatDid a d f b = (b.by ≡ a.by) × StepsTo a.board a.by d f b.board
+
+abbrev pub SeatMoved : Seat → ℕ → Option FrameView → Option FrameView → Seat → Type 0
+SeatMoved a p page result b = (b.by ≡ a.by) × MovesTo a.board p page result b.board

@@ -1,11 +1,15 @@
-ghost use Rattle.std.specs.Prelude.{◌≡◌, ◌<◌, IfOk, length, map, option_map};
+ghost use Rattle.std.specs.Prelude.{◌≡◌, ◌<◌, IfOk, Some, None, cond, length, map, nat_lt, option_map};
+ghost use Rattle.kn_base.specs.Pages.{FrameView};
+ghost use Rattle.kn_base.specs.Sizes.{frame_count};
+ghost use Rattle.kn_base.specs.declared.places.Place.TheVariants.{Frame};
 ghost use Rattle.kn_graph.specs.Ground.{IsGoodGround};
 ghost use Rattle.kn_rule.specs.Places.{Within};
-ghost use Rattle.kn_rule.specs.Steps.{callers};
-ghost use Rattle.kn_steps.specs.Made.{MayMove, Moved};
+ghost use Rattle.kn_rule.specs.Steps.{callers, does, found};
+ghost use Rattle.kn_steps.specs.Made.{Allowed, Made, MayMove, Moved};
 ghost use Rattle.kn_view.specs.Parts.{ground_of};
 ghost use Rattle.kn_board.specs.Open.{AreWhole, opened};
-ghost use Rattle.kn_board.specs.World.{MovesTo, Sound, lies_at, slot_at, stand_at, word_at};
+ghost use Rattle.kn_board.specs.World.{MovesTo, SeatDid, SeatMoved, Sound, StepsTo, lies_at, seat_here};
+ghost use Rattle.kn_board.specs.World.{seat_stand, slot_at, stand_at, word_at};
 
 use crate::plain::Plain;
 use kn_base::{Caller, FrameNo, FramePage, Home, Place, Sizes};
@@ -84,6 +88,17 @@ impl<P: FramePage> Board<P> {
         self.plain.word(place)
     }
 
+    /// The word of a frame, and none past the last frame.
+    pub fn frame_word(&self, frame: FrameNo) -> Option<u64>
+        ensures { result ≡ cond (nat_lt frame.0 (frame_count self.now.heap.sizes)) (Some (word_at self.now (Frame frame.0))) None }
+    {
+        if u32::from(frame.0) < self.plain.sizes.frames() {
+            Some(self.word(Place::Frame(frame.0)))
+        } else {
+            None
+        }
+    }
+
     /// The page in the slot of a frame. There is none where the page is in its owner's hand, and past the
     /// last frame.
     pub fn page(&self, frame: FrameNo) -> Option<&P>
@@ -91,14 +106,48 @@ impl<P: FramePage> Board<P> {
     {
         self.plain.page(frame.0)
     }
+
+    // One step of a caller.
+    #[inline(always)]
+    fn makes(&mut self, by: u8, place: Place, kind: Kind, act: Action) -> u64
+        requires caller { by < callers self.old.heap.sizes }
+        requires may { Allowed (stand_at by self.old) (lies_at self.old) (does kind place act) }
+        ensures { (page : FrameView) × StepsTo self.old by (does kind place act) (found result page) self.new
+            × Made (stand_at by self.old) (lies_at self.old) (does kind place act) (found result page) (stand_at by self.new) (lies_at self.new) }
+    {
+        self.plain.step(by, place, kind, act)
+    }
+
+    // The page of a frame that a caller owns goes out of its slot, or comes back.
+    #[inline(always)]
+    fn moves(&mut self, by: u8, frame: u16, page: Option<P>) -> Option<P>
+        requires caller { by < callers self.old.heap.sizes }
+        requires may { MayMove (stand_at by self.old) (lies_at self.old) frame (option_map P.page page) }
+        ensures moves { MovesTo self.old frame (option_map P.page page) (option_map P.page result) self.new }
+        ensures moved { Moved (stand_at by self.old) (lies_at self.old) frame (option_map P.page page) (option_map P.page result)
+            (stand_at by self.new) (lies_at self.new) }
+    {
+        self.plain.exchange(by, frame, page)
+    }
 }
 
-/// The steps of one caller over a board.
+/// The steps of one caller over a board. Contracts see a `Seat` (`specs/World.antt`).
 #[derive(Drop)]
 pub struct BoardSeat<P: FramePage> {
     by: u8,
     board: Board<P>,
-    ghost caller: { by < callers board.heap.sizes },
+}
+
+impl<P: FramePage> Model for BoardSeat<P> {
+    ghost use Rattle.std.specs.Prelude.{◌<◌};
+    ghost use Rattle.kn_rule.specs.Steps.{callers};
+    ghost use Rattle.kn_board.specs.World.{Seat};
+
+    ghost Value = { Seat };
+
+    ghost view = { λ s. record { by = s.by; board = s.board } };
+
+    ghost invariant = { λ s. s.by < callers s.board.heap.sizes };
 }
 
 impl<P: FramePage> BoardSeat<P> {
@@ -110,75 +159,86 @@ impl<P: FramePage> BoardSeat<P> {
         let BoardSeat { by: _, board } = self;
         board
     }
+
+    // One step of the seat's caller.
+    #[inline(always)]
+    fn makes(&mut self, place: Place, kind: Kind, act: Action) -> u64
+        requires { Allowed (seat_stand self.old) (seat_here self.old) (does kind place act) }
+        ensures { (page : FrameView)
+            × Made (seat_stand self.old) (seat_here self.old) (does kind place act) (found result page) (seat_stand self.new) (seat_here self.new)
+            × SeatDid self.old (does kind place act) (found result page) self.new }
+    {
+        let by = self.by;
+        self.board.makes(by, place, kind, act)
+    }
+
+    // A page of a frame that the seat's caller owns goes out of its slot, or comes back.
+    #[inline(always)]
+    fn moves(&mut self, frame: u16, page: Option<P>) -> Option<P>
+        requires { MayMove (seat_stand self.old) (seat_here self.old) frame (option_map P.page page) }
+        ensures moved { Moved (seat_stand self.old) (seat_here self.old) frame (option_map P.page page) (option_map P.page result)
+            (seat_stand self.new) (seat_here self.new) }
+        ensures kept { SeatMoved self.old frame (option_map P.page page) (option_map P.page result) self.new }
+    {
+        let by = self.by;
+        self.board.moves(by, frame, page)
+    }
 }
 
 impl<P: Home> Steps<P> for BoardSeat<P> {
-    ghost use Rattle.std.specs.Prelude.{◌≡◌};
-    ghost use Rattle.kn_board.specs.World.{stand_at, lies_at, StepsTo, MovesTo};
+    ghost use Rattle.kn_board.specs.World.{seat_stand, seat_here, SeatDid, SeatMoved};
 
-    ghost stand = { λ s. stand_at s.by s.board };
+    ghost stand = { seat_stand };
 
-    ghost here = { λ s. lies_at s.board };
+    ghost here = { seat_here };
 
-    ghost did = { λ a d f b. (b.by ≡ a.by) × StepsTo a.board a.by d f b.board };
+    ghost did = { SeatDid };
 
-    ghost moved = { λ a p page result b. (b.by ≡ a.by) × MovesTo a.board p page result b.board };
+    ghost moved = { SeatMoved };
 
     #[inline(always)]
     fn poll(&mut self, next: Option<Call>) -> u64 {
-        self.board
-            .plain
-            .step(self.by, Place::Phase, Kind::K1, Action::LoadsFor(next))
+        self.makes(Place::Phase, Kind::K1, Action::LoadsFor(next))
     }
 
     #[inline(always)]
     fn load(&mut self, place: Place, kind: Kind) -> u64 {
-        self.board.plain.step(self.by, place, kind, Action::Loads)
+        self.makes(place, kind, Action::Loads)
     }
 
     #[inline(always)]
     fn store(&mut self, place: Place, word: u64, kind: Kind) {
-        self.board
-            .plain
-            .step(self.by, place, kind, Action::Stores(word));
+        self.makes(place, kind, Action::Stores(word));
     }
 
     #[inline(always)]
     fn swap_if(&mut self, place: Place, old: u64, new: u64, kind: Kind) -> Result<u64, u64> {
-        let word = self
-            .board
-            .plain
-            .step(self.by, place, kind, Action::Swaps(old, new));
+        let word = self.makes(place, kind, Action::Swaps(old, new));
         if word == old { Ok(word) } else { Err(word) }
     }
 
     #[inline(always)]
     fn add(&mut self, place: Place, n: u64, kind: Kind) -> u64 {
-        self.board.plain.step(self.by, place, kind, Action::Adds(n))
+        self.makes(place, kind, Action::Adds(n))
     }
 
     #[inline(always)]
     fn sub(&mut self, place: Place, n: u64, kind: Kind) -> u64 {
-        self.board
-            .plain
-            .step(self.by, place, kind, Action::Subtracts(n))
+        self.makes(place, kind, Action::Subtracts(n))
     }
 
     #[inline(always)]
     fn raise(&mut self, place: Place, n: u64, kind: Kind) -> u64 {
-        self.board
-            .plain
-            .step(self.by, place, kind, Action::Raises(n))
+        self.makes(place, kind, Action::Raises(n))
     }
 
     #[inline(always)]
     fn move_page(&mut self, frame: FrameNo, page: Option<P>) -> Option<P>
-        requires { MayMove (stand_at self.old.by self.old.board) (lies_at self.old.board) frame.0 (option_map P.page page) }
-        ensures moved { Moved (stand_at self.old.by self.old.board) (lies_at self.old.board) frame.0 (option_map P.page page)
-            (option_map P.page result) (stand_at self.new.by self.new.board) (lies_at self.new.board) }
-        ensures kept { (self.new.by ≡ self.old.by)
-            × MovesTo self.old.board frame.0 (option_map P.page page) (option_map P.page result) self.new.board }
+        requires { MayMove (seat_stand self.old) (seat_here self.old) frame.0 (option_map P.page page) }
+        ensures moved { Moved (seat_stand self.old) (seat_here self.old) frame.0 (option_map P.page page) (option_map P.page result)
+            (seat_stand self.new) (seat_here self.new) }
+        ensures kept { SeatMoved self.old frame.0 (option_map P.page page) (option_map P.page result) self.new }
     {
-        self.board.plain.exchange(self.by, frame.0, page)
+        self.moves(frame.0, page)
     }
 }

@@ -1,25 +1,36 @@
 -- How a trace ends, from how its reading, its run and its writing ended.
-use Rattle.std.proofs.Common.{◌≡◌, ◌≢◌, ◌⊎◌, inl, inr, ℕ, ◌<◌, ◌≤◌, List, length, refl, sym, subst, arith}
-use Rattle.std.specs.Prelude.{Option, Some, None, IsSome}
-use Rattle.kn_graph.specs.declared.entries.Entry.{Entry}
+use Rattle.std.proofs.Common.{◌≡◌, ◌≢◌, ◌⊎◌, inl, inr, ℕ, Bool, true, false, List, refl, sym, subst}
+use Rattle.std.specs.Prelude.{Option, Some, None, IsSome, is_none, string_bytes}
+use Rattle.std.specs.declared.string.String.{String}
+use Rattle.std.specs.Option.{option_map}
+use Rattle.kn_graph.specs.Histories.{IsLegal}
+use Rattle.kn_board.specs.World.{World}
+use Rattle.kn_trace.specs.Runs.{ArePartial, IsRunOf}
 use Rattle.kn_io.specs.Counts.{NeverFalls}
 use Rattle.kn_io.specs.Devices.{Devices, SourceFailed, SinkFailed}
 use Rattle.kn_io.specs.Told.{GivesAll, GivesSome, Appends, AppendsPrefix}
 use Rattle.kn_lines.specs.declared.built.TheConstants.{TODAY}
-use Rattle.kn_script.specs.Scripts.{Scripted}
+use Rattle.kn_script.specs.Scripts.{Scripted, ground_of}
 use Rattle.kn_script.specs.Grammar.{IsText}
-use Rattle.kn_script.specs.Laws.{NoTextIsBad, TextsAreOfOneScript}
+use Rattle.kn_script.specs.Laws.{NoTextIsBad}
 use Rattle.kn_commands.specs.declared.status.Status.{Status}
 use Rattle.kn_commands.specs.declared.status.Status.TheVariants as ends
-use Rattle.kn_commands.specs.Kept.{RunRecord}
-use Rattle.kn_commands.specs.Runs.{IsRunOf, IsReported, AreComplete, IsSpent, schedule_of}
-use Rattle.kn_commands.specs.Ends.{Ran, RanWhole, IsRead, IsRefused, IsUnread, IsFinished, Refuses, IsScript, IsTraceEnd}
+use Rattle.kn_commands.specs.Ends.{Ran, RanWhole, IsRead, IsRefused, IsReported, IsUnread, IsFinished, Refuses, IsScript, IsTraceEnd}
 
-module _ (apart : NoTextIsBad TODAY) (one : TextsAreOfOneScript TODAY) (old new : Devices) (status : Status) (cells : Option RunRecord)
+-- there is a report exactly where the turns were not spent
+abbrev pub IsTextOf : Bool → Option (List ℕ) → Type 0
+IsTextOf is_spent None = is_spent ≡ true
+IsTextOf is_spent (Some text) = is_spent ≡ false
+
+pub text_of : {Z : Type 0} (report : Option (String Z)) → IsTextOf (is_none report) (option_map string_bytes report)
+text_of None = refl
+text_of (Some text) = refl
+
+module _ (apart : NoTextIsBad TODAY) (old new : Devices) (status : Status) (board : Option World)
     (left : GivesSome old.left new.left) (source_count : NeverFalls old.source_faults new.source_faults)
     (sink_count : NeverFalls old.sink_faults new.sink_faults) where
   -- no script was read, or its run found no memory
-  module _ (none : cells ≡ None) (unread : IsUnread status old.left new.left old.source_faults new.source_faults)
+  module _ (none : board ≡ None) (unread : IsUnread status old.left new.left old.source_faults new.source_faults)
       (told : Refuses status old.held new.held old.sink_faults new.sink_faults) where
     as_status : (other : Status) → status ≡ other → IsUnread other old.left new.left old.source_faults new.source_faults
     as_status other e = subst (λ (x : Status). IsUnread x old.left new.left old.source_faults new.source_faults) e unread
@@ -57,15 +68,15 @@ module _ (apart : NoTextIsBad TODAY) (one : TextsAreOfOneScript TODAY) (old new 
     is_memory ends.Spent script bytes text told sound is = absurd is
     is_memory ends.WriteFault script bytes text told sound is = absurd is
 
-    no_cells : IsSome cells → (status ≡ ends.Ok) ⊎ (status ≡ ends.Spent) ⊎ (status ≡ ends.WriteFault)
-    no_cells some = let h = subst (λ (x : Option RunRecord). IsSome x) none some in cc
+    no_board : IsSome board → (status ≡ ends.Ok) ⊎ (status ≡ ends.Spent) ⊎ (status ≡ ends.WriteFault)
+    no_board some = let h = subst (λ (x : Option World). IsSome x) none some in cc
 
-    no_end : (status ≡ ends.Ok) ⊎ (status ≡ ends.Spent) ⊎ (status ≡ ends.WriteFault) → IsSome cells
+    no_end : (status ≡ ends.Ok) ⊎ (status ≡ ends.Spent) ⊎ (status ≡ ends.WriteFault) → IsSome board
     no_end (inl e) = absurd (as_status ends.Ok e)
     no_end (inr (inl e)) = absurd (as_status ends.Spent e)
     no_end (inr (inr e)) = absurd (as_status ends.WriteFault e)
 
-    pub refused_end : IsTraceEnd old new status cells
+    pub refused_end : IsTraceEnd old new status board
     refused_end = record {
       ok = λ e. absurd (as_status ends.Ok e);
       write_fault = λ e. absurd (as_status ends.WriteFault e);
@@ -78,25 +89,35 @@ module _ (apart : NoTextIsBad TODAY) (one : TextsAreOfOneScript TODAY) (old new 
       source_fault_is_answered = λ not. other_faults status not unread;
       ok_without_fault = λ e. absurd (as_status ends.Ok e);
       never_usage = λ e. absurd (as_status ends.Usage e);
-      cells_given = (no_cells, no_end);
+      board_given = (no_board, no_end);
       source_left = left;
       source_count = source_count;
       sink_count = sink_count;
-      complete = λ script bytes text enough tells. inr (is_memory status script bytes text tells.told tells.source unread);
-      spent_exactly = λ script bytes text short told sound. inr (is_memory status script bytes text told sound unread);
+      complete = λ script bytes text tells. inr (inr (is_memory status script bytes text tells.told tells.source unread));
       refused = λ bytes told none sound. no_text status unread sound;
     }
 
   -- a script was read and its run was made
-  module _ (script : Scripted) (run : RunRecord) (read : IsRead script old.left new.left) (is_run : IsRunOf script run)
-      (given : cells ≡ Some run) (no_fault : new.source_faults ≡ old.source_faults) where
-    abbrev ran : (Ended : Scripted → List Entry → Type 0) → Ended script run.history → Ran Ended old new cells
-    ran Ended ended = record { script = script; read = read; run = run; given = given; is_run = is_run; ended = ended }
+  module _ (script : Scripted) (world : World) (is_spent : Bool) (read : IsRead script old.left new.left) (is_run : IsRunOf script is_spent world)
+      (legal : IsLegal (ground_of script) world.history) (partial : ArePartial script world.history) (given : board ≡ Some world)
+      (no_fault : new.source_faults ≡ old.source_faults) where
+    ran : (spent : Bool) → is_spent ≡ spent → Ran spent old new board
+    ran spent e = record {
+      script = script;
+      read = read;
+      world = world;
+      given = given;
+      is_run = subst (λ b. IsRunOf script b world) e is_run;
+      legal = legal;
+      partial = partial;
+    }
 
-    whole : (Out : Option (List ℕ) → Option (List ℕ) → List ℕ → Type 0) (text : List ℕ) →
-        IsReported script run.history (Some text) → Out old.held new.held text → RanWhole Out old new cells
-    whole Out text (enough, complete, (logs, fit, text_is)) out = record {
-      ran = ran AreComplete complete;
+    whole : (Out : Option (List ℕ) → Option (List ℕ) → List ℕ → Type 0) (text : List ℕ) → is_spent ≡ false →
+        IsReported script world.history (Some text) → Out old.held new.held text → RanWhole Out old new board
+    unfolding ran
+    whole Out text e (complete, (logs, fit, text_is)) out = record {
+      ran = ran false e;
+      complete = complete;
       reports = record { logs = logs; fit = fit; written = subst (λ (x : List ℕ). Out old.held new.held x) text_is out };
     }
 
@@ -106,30 +127,28 @@ module _ (apart : NoTextIsBad TODAY) (one : TextsAreOfOneScript TODAY) (old new 
         let gives = subst (λ (x : Option (List ℕ)). GivesAll x new.left read.bytes) told read.given in
         subst (λ (x : List ℕ). IsText TODAY script x) gives.0 read.text
 
-    told_script : (other : Scripted) (bytes : List ℕ) → IsText TODAY other bytes → old.left ≡ Some bytes → other ≡ script
-    told_script other bytes text told = one other script bytes text (told_text bytes told)
-
     abbrev pub IsEnd : Status → Option (List ℕ) → Type 0
     IsEnd x text = IsFinished x text old.held new.held old.sink_faults new.sink_faults
 
-    ok_text : (text : Option (List ℕ)) → IsReported script run.history text → IsEnd ends.Ok text → RanWhole Appends old new cells
-        × (new.sink_faults ≡ old.sink_faults)
-    ok_text None reported is = absurd is
-    ok_text (Some text) reported is = (whole Appends text reported is.0, is.1)
+    ok_text : (text : Option (List ℕ)) → IsTextOf is_spent text → IsReported script world.history text → IsEnd ends.Ok text →
+        RanWhole Appends old new board × (new.sink_faults ≡ old.sink_faults)
+    ok_text None e reported is = absurd is
+    ok_text (Some text) e reported is = (whole Appends text e reported is.0, is.1)
 
-    fault_text : (text : Option (List ℕ)) → IsReported script run.history text → IsEnd ends.WriteFault text → RanWhole AppendsPrefix old new cells
-        × SinkFailed old new
-    fault_text None reported is = absurd is
-    fault_text (Some text) reported is = (whole AppendsPrefix text reported is.0, is.1)
+    fault_text : (text : Option (List ℕ)) → IsTextOf is_spent text → IsReported script world.history text → IsEnd ends.WriteFault text →
+        RanWhole AppendsPrefix old new board × SinkFailed old new
+    fault_text None e reported is = absurd is
+    fault_text (Some text) e reported is = (whole AppendsPrefix text e reported is.0, is.1)
 
-    module _ (text : Option (List ℕ)) (reported : IsReported script run.history text) (finished : IsEnd status text) where
+    module _ (text : Option (List ℕ)) (text_of : IsTextOf is_spent text) (reported : IsReported script world.history text)
+        (finished : IsEnd status text) where
       as_end : (other : Status) → status ≡ other → IsEnd other text
       as_end other e = subst (λ (x : Status). IsEnd x text) e finished
 
-      spent_text : (text : Option (List ℕ)) → IsReported script run.history text → IsEnd ends.Spent text →
-          IsSpent script run.history × IsFinished ends.Spent None old.held new.held old.sink_faults new.sink_faults
-      spent_text None reported is = (reported.1, is)
-      spent_text (Some text) reported is = absurd is
+      spent_text : (text : Option (List ℕ)) → IsTextOf is_spent text → IsEnd ends.Spent text →
+          (is_spent ≡ true) × IsFinished ends.Spent None old.held new.held old.sink_faults new.sink_faults
+      spent_text None e is = (e, is)
+      spent_text (Some text) e is = absurd is
 
       ended_by : (x : Status) (text : Option (List ℕ)) → IsEnd x text → (x ≡ ends.Ok) ⊎ (x ≡ ends.Spent) ⊎ (x ≡ ends.WriteFault)
       ended_by ends.Ok text is = inl refl
@@ -140,57 +159,39 @@ module _ (apart : NoTextIsBad TODAY) (one : TextsAreOfOneScript TODAY) (old new 
       ended_by ends.Memory text is = absurd is
       ended_by (ends.Script n why) text is = absurd is
 
-      -- with turns enough the run ended well, unless the sink failed
-      ended_well : (x : Status) (text : Option (List ℕ)) → length (schedule_of script) ≤ script.turns → IsReported script run.history text →
-          (SinkFailed old new → ⊥) → IsEnd x text → x ≡ ends.Ok
-      ended_well ends.Ok text enough reported sound is = refl
-      ended_well ends.Spent None enough reported sound is = absurd (omega (arith, enough, reported.0))
-      ended_well ends.Spent (Some text) enough reported sound is = absurd is
-      ended_well ends.WriteFault None enough reported sound is = absurd is
-      ended_well ends.WriteFault (Some text) enough reported sound is = absurd (sound is.1)
-      ended_well ends.ReadFault text enough reported sound is = absurd is
-      ended_well ends.Usage text enough reported sound is = absurd is
-      ended_well ends.Memory text enough reported sound is = absurd is
-      ended_well (ends.Script n why) text enough reported sound is = absurd is
+      -- the run ended well or its turns were spent, unless the sink failed
+      ended_well : (x : Status) (text : Option (List ℕ)) → (SinkFailed old new → ⊥) → IsEnd x text →
+          (x ≡ ends.Ok) ⊎ (x ≡ ends.Spent) ⊎ (x ≡ ends.Memory)
+      ended_well ends.Ok text sound is = inl refl
+      ended_well ends.Spent text sound is = inr (inl refl)
+      ended_well ends.WriteFault None sound is = absurd is
+      ended_well ends.WriteFault (Some text) sound is = absurd (sound is.1)
+      ended_well ends.ReadFault text sound is = absurd is
+      ended_well ends.Usage text sound is = absurd is
+      ended_well ends.Memory text sound is = absurd is
+      ended_well (ends.Script n why) text sound is = absurd is
 
-      -- and else its turns were spent
-      ended_spent : (x : Status) (text : Option (List ℕ)) → script.turns < length (schedule_of script) → IsReported script run.history text →
-          IsEnd x text → x ≡ ends.Spent
-      ended_spent ends.Spent text short reported is = refl
-      ended_spent ends.Ok None short reported is = absurd is
-      ended_spent ends.Ok (Some text) short reported is = absurd (omega (arith, short, reported.0))
-      ended_spent ends.WriteFault None short reported is = absurd is
-      ended_spent ends.WriteFault (Some text) short reported is = absurd (omega (arith, short, reported.0))
-      ended_spent ends.ReadFault text short reported is = absurd is
-      ended_spent ends.Usage text short reported is = absurd is
-      ended_spent ends.Memory text short reported is = absurd is
-      ended_spent (ends.Script n why) text short reported is = absurd is
-
-      pub ran_end : IsTraceEnd old new status cells
+      pub ran_end : IsTraceEnd old new status board
+      unfolding ran
       ran_end = record {
-        ok = λ e. (ok_text text reported (as_end ends.Ok e)).0;
-        write_fault = λ e. (fault_text text reported (as_end ends.WriteFault e)).0;
-        spent = λ e. ran IsSpent (spent_text text reported (as_end ends.Spent e)).0;
-        spent_line = λ e. (spent_text text reported (as_end ends.Spent e)).1;
+        ok = λ e. (ok_text text text_of reported (as_end ends.Ok e)).0;
+        write_fault = λ e. (fault_text text text_of reported (as_end ends.WriteFault e)).0;
+        spent = λ e. ran true (spent_text text text_of (as_end ends.Spent e)).0;
+        spent_line = λ e. (spent_text text text_of (as_end ends.Spent e)).1;
         script = λ n why e. absurd (as_end (ends.Script n why) e);
         script_line = λ n why e. absurd (as_end (ends.Script n why) e);
-        write_fault_only_where_rose = λ e. (fault_text text reported (as_end ends.WriteFault e)).1;
+        write_fault_only_where_rose = λ e. (fault_text text text_of reported (as_end ends.WriteFault e)).1;
         read_fault_only_where_rose = λ e. absurd (as_end ends.ReadFault e);
         source_fault_is_answered = λ not. no_fault;
-        ok_without_fault = λ e. (ok_text text reported (as_end ends.Ok e)).1;
+        ok_without_fault = λ e. (ok_text text text_of reported (as_end ends.Ok e)).1;
         never_usage = λ e. absurd (as_end ends.Usage e);
-        cells_given = (λ some. ended_by status text finished, λ e. subst (λ (x : Option RunRecord). IsSome x) (sym given) some_run);
+        board_given = (λ some. ended_by status text finished, λ e. subst (λ (x : Option World). IsSome x) (sym given) some_board);
         source_left = left;
         source_count = source_count;
         sink_count = sink_count;
-        complete = λ other bytes is enough tells.
-            let same = told_script other bytes is tells.told in
-            inl (ended_well status text (subst (λ (x : Scripted). length (schedule_of x) ≤ x.turns) same enough) reported tells.sink finished);
-        spent_exactly = λ other bytes is short told sound.
-            let same = told_script other bytes is told in
-            inl (ended_spent status text (subst (λ (x : Scripted). x.turns < length (schedule_of x)) same short) reported finished);
+        complete = λ other bytes is tells. ended_well status text tells.sink finished;
         refused = λ bytes told none sound. absurd (none script (told_text bytes told));
       }
         where
-          some_run : IsSome (Some run)
-          some_run = refl
+          some_board : IsSome (Some world)
+          some_board = refl

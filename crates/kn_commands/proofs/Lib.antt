@@ -1,6 +1,2 @@
-pub mod RoomLemmas
-pub mod StandsLemmas
-pub mod RunsLemmas
-pub mod RunEnds
-pub mod WordLemmas
-pub mod EndLemmas
+mod EndLemmas
+mod WordLemmas

@@ -1,22 +1,24 @@
 -- How a call of the program may end.
-use Rattle.std.specs.Prelude.{◌≡◌, ◌≢◌, ℕ, ◌+◌, ◌<◌, ◌≤◌, ◌⊎◌, ◌↔◌, Option, Some, None, IsSome, IfSome, List, []}
+use Rattle.std.specs.Prelude.{◌≡◌, ◌≢◌, ℕ, ◌+◌, ◌≤◌, Bool, true, false}
+use Rattle.std.specs.Prelude.{◌⊎◌, ◌↔◌, Option, Some, None, IsSome, IfSome, List, []}
 use Rattle.std.specs.Prelude.{length, codes}
 use Rattle.kn_graph.specs.declared.entries.Entry.{Entry}
+use Rattle.kn_graph.specs.Histories.{IsLegal}
 use Rattle.kn_graph.specs.Logs.{LogsFit}
+use Rattle.kn_board.specs.World.{World}
+use Rattle.kn_trace.specs.Runs.{AreComplete, ArePartial, IsRunOf}
 use Rattle.kn_io.specs.Counts.{Rose, NeverFalls}
 use Rattle.kn_io.specs.Devices.{Devices, SourceFailed, SinkFailed}
 use Rattle.kn_io.specs.Told.{GivesAll, GivesSome, Appends, AppendsPrefix}
 use Rattle.kn_report.specs.Reports.{line, report_text}
 use Rattle.kn_lines.specs.declared.built.TheConstants.{TODAY}
 use Rattle.kn_script.specs.declared.faults.Why.{Why}
-use Rattle.kn_script.specs.Scripts.{Scripted}
+use Rattle.kn_script.specs.Scripts.{Scripted, ground_of}
 use Rattle.kn_base.specs.declared.limits.TheConstants.{LONGEST_TEXT}
 use Rattle.kn_script.specs.Grammar.{IsText, IsBad}
 use Rattle.kn_commands.specs.declared.status.Status.{Status}
 use Rattle.kn_commands.specs.declared.status.Status.TheVariants as ends
-use Rattle.kn_commands.specs.Kept.{RunRecord}
 use Rattle.kn_commands.specs.Refusals.{refusal}
-use Rattle.kn_commands.specs.Runs.{IsRunOf, AreComplete, IsSpent, schedule_of}
 
 -- a prefix of the text went out, and the whole where the sink's count of faults did not rise
 pub record Writes (text : List ℕ) (held held' : Option (List ℕ)) (faults faults' : ℕ) : Type 0 where
@@ -45,14 +47,16 @@ IsUnread (ends.Script n why) left left' faults faults' = IsRefused n why left le
 IsUnread ends.Memory left left' faults faults' = faults' ≡ faults
 IsUnread _ left left' faults faults' = ⊥
 
--- a script was read and a run of it was made, whose record is handed out, and Ended holds of its history
-pub record Ran (Ended : Scripted → List Entry → Type 0) (old new : Devices) (cells : Option RunRecord) : Type 0 where
+-- a script was read and a run of it was made, whose board is handed out: the turns were spent with some thread not ended, or every
+-- thread has ended; the history is legal, and each thread's log answers the first of its calls
+pub record Ran (is_spent : Bool) (old new : Devices) (board : Option World) : Type 0 where
   pub script : Scripted
   pub read : IsRead script old.left new.left
-  pub run : RunRecord
-  pub given : cells ≡ Some run
-  pub is_run : IsRunOf script run
-  pub ended : Ended script run.history
+  pub world : World
+  pub given : board ≡ Some world
+  pub is_run : IsRunOf script is_spent world
+  pub legal : IsLegal (ground_of script) world.history
+  pub partial : ArePartial script world.history
 
 -- the report of a history went out, as Out says: whole, or a prefix of it; it is the text of logs that fit the history
 pub record Reports (Out : Option (List ℕ) → Option (List ℕ) → List ℕ → Type 0) (script : Scripted) (history : List Entry)
@@ -61,10 +65,18 @@ pub record Reports (Out : Option (List ℕ) → Option (List ℕ) → List ℕ �
   pub fit : LogsFit (script.sizes.threads + 2) logs history
   pub written : Out old.held new.held (report_text logs)
 
--- every thread has ended, and the report went out
-pub record RanWhole (Out : Option (List ℕ) → Option (List ℕ) → List ℕ → Type 0) (old new : Devices) (cells : Option RunRecord) : Type 0 where
-  pub ran : Ran AreComplete old new cells
-  pub reports : Reports Out ran.script ran.run.history old new
+-- every thread has ended and answered all its calls, and the report went out
+pub record RanWhole (Out : Option (List ℕ) → Option (List ℕ) → List ℕ → Type 0) (old new : Devices) (board : Option World) : Type 0 where
+  pub ran : Ran false old new board
+  pub complete : AreComplete ran.script ran.world.history
+  pub reports : Reports Out ran.script ran.world.history old new
+
+-- what is made of a script: a board and a history, whose report there is where every thread has ended, and none where the turns
+-- were spent
+abbrev pub IsReported : Scripted → List Entry → Option (List ℕ) → Type 0
+IsReported s history None = Unit {0}
+IsReported s history (Some text) =
+    AreComplete s history × ((logs : List (List Entry)) × LogsFit (s.sizes.threads + 2) logs history × (text ≡ report_text logs))
 
 -- what went out of a refusal: the line that tells a bad script, and nothing else
 abbrev pub Refuses : Status → Option (List ℕ) → Option (List ℕ) → ℕ → ℕ → Type 0
@@ -100,10 +112,10 @@ IsSilent ends.Memory = Unit {0}
 IsSilent _ = ⊥
 
 -- how a trace ends, by its status
-pub record IsTraceEnd (old new : Devices) (status : Status) (cells : Option RunRecord) : Type 0 where
-  pub ok : status ≡ ends.Ok → RanWhole Appends old new cells
-  pub write_fault : status ≡ ends.WriteFault → RanWhole AppendsPrefix old new cells
-  pub spent : status ≡ ends.Spent → Ran IsSpent old new cells
+pub record IsTraceEnd (old new : Devices) (status : Status) (board : Option World) : Type 0 where
+  pub ok : status ≡ ends.Ok → RanWhole Appends old new board
+  pub write_fault : status ≡ ends.WriteFault → RanWhole AppendsPrefix old new board
+  pub spent : status ≡ ends.Spent → Ran true old new board
   pub spent_line : status ≡ ends.Spent → WritesLine (codes "turns spent") old new
   pub script : (n : ℕ) (why : Why) → status ≡ ends.Script n why → IsRefused n why old.left new.left
   pub script_line : (n : ℕ) (why : Why) → status ≡ ends.Script n why → WritesLine (refusal n why) old new
@@ -112,23 +124,20 @@ pub record IsTraceEnd (old new : Devices) (status : Status) (cells : Option RunR
   pub source_fault_is_answered : status ≢ ends.ReadFault → new.source_faults ≡ old.source_faults
   pub ok_without_fault : status ≡ ends.Ok → new.sink_faults ≡ old.sink_faults
   pub never_usage : status ≢ ends.Usage
-  pub cells_given : IsSome cells ↔ ((status ≡ ends.Ok) ⊎ (status ≡ ends.Spent) ⊎ (status ≡ ends.WriteFault))
+  pub board_given : IsSome board ↔ ((status ≡ ends.Ok) ⊎ (status ≡ ends.Spent) ⊎ (status ≡ ends.WriteFault))
   pub source_left : GivesSome old.left new.left
   pub source_count : NeverFalls old.source_faults new.source_faults
   pub sink_count : NeverFalls old.sink_faults new.sink_faults
-  -- a text of a script is traced to its end where its turns are enough, no device fails and memory lasts
-  pub complete : (script : Scripted) (bytes : List ℕ) → IsText TODAY script bytes → length (schedule_of script) ≤ script.turns →
-      Tells bytes old new → (status ≡ ends.Ok) ⊎ (status ≡ ends.Memory)
-  -- and its turns are spent where they are not enough, whatever the sink does
-  pub spent_exactly : (script : Scripted) (bytes : List ℕ) → IsText TODAY script bytes → script.turns < length (schedule_of script) →
-      old.left ≡ Some bytes → (SourceFailed old new → ⊥) → (status ≡ ends.Spent) ⊎ (status ≡ ends.Memory)
+  -- a text of a script is traced until its threads have ended or its turns are spent, where no device fails and memory lasts
+  pub complete : (script : Scripted) (bytes : List ℕ) → IsText TODAY script bytes → Tells bytes old new →
+      (status ≡ ends.Ok) ⊎ (status ≡ ends.Spent) ⊎ (status ≡ ends.Memory)
   -- any other text is refused where the source does not fail and memory lasts
   pub refused : (bytes : List ℕ) → old.left ≡ Some bytes → IsNoText bytes → (SourceFailed old new → ⊥) →
       IsScript status ⊎ (status ≡ ends.Memory)
 
 -- the words are none of the forms: the usage line was written
-pub record IsUsageEnd (old new : Devices) (status : Status) (cells : Option RunRecord) : Type 0 where
+pub record IsUsageEnd (old new : Devices) (status : Status) (board : Option World) : Type 0 where
   pub status_is : status ≡ ends.Usage
-  pub no_cells : cells ≡ None
+  pub no_board : board ≡ None
   pub sink_count : NeverFalls old.sink_faults new.sink_faults
   pub usage_line : WritesLine (codes "usage: kn_run trace | run | gen N") old new

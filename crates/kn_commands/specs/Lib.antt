@@ -1,8 +1,3 @@
-pub mod Births
-pub mod Rooms
-pub mod Kept
-pub mod Stands
-pub mod Runs
 pub mod Refusals
 pub mod Words
 pub mod Numbers

@@ -1,28 +1,39 @@
-ghost use Rattle.std.specs.Prelude.{◌≡◌, Some, None, IfOk, IfErr, OnOk, string_bytes};
+ghost use Rattle.std.specs.Prelude.{◌≡◌, Some, None, IfOk, IfErr, OnOk, is_none, string_bytes};
 ghost use Rattle.std.specs.Option.{option_map};
+ghost use Rattle.kn_graph.specs.Histories.{IsLegal};
 ghost use Rattle.kn_io.specs.Counts.{Rose, NeverFalls};
 ghost use Rattle.kn_io.specs.Devices.{seen};
 ghost use Rattle.kn_io.specs.Told.{GivesSome};
 ghost use Rattle.kn_report.specs.Reports.{line};
 ghost use Rattle.kn_script.specs.Good.{IsGoodScript};
-ghost use Rattle.kn_commands.specs.Runs.{AreAnswerable};
-ghost use Rattle.kn_commands.specs.Ends.{IsFinished, IsRead, IsSilent, IsTraceEnd, IsUnread, Refuses, Writes};
+ghost use Rattle.kn_script.specs.Scripts.{ground_of};
+ghost use Rattle.kn_trace.specs.Runs.{AreBuilt, ArePartial, IsRunOf};
+ghost use Rattle.kn_commands.specs.Ends.{IsFinished, IsRead, IsReported, IsSilent, IsTraceEnd, IsUnread, Refuses, Writes};
 
-use crate::cells::Cells;
 use crate::refusals::refusal_line;
-use crate::runs::{Made, run};
 use crate::status::Status;
 use kn_base::LONGEST_TEXT;
+use kn_board::Board;
 use kn_io::{ReadEnd, Sink, Source, read_all, write_all};
+use kn_page::Page;
+use kn_report::report;
 use kn_script::{Fault, Script, Why, parse, state_laws};
-use std::alloc::Global;
+use kn_trace::{Traced, trace};
+use std::alloc::{AllocError, Global};
 
-/// How a trace ended, and the cells of its run. They are there exactly with `Ok`, `Spent` and
+/// How a trace ended, and the board of its run. It is there exactly with `Ok`, `Spent` and
 /// `WriteFault`.
 #[derive(Drop)]
 pub struct TraceEnd {
     pub status: Status,
-    pub cells: Option<Cells>,
+    pub board: Option<Board<Page>>,
+}
+
+/// A run that was made: its board, and the text of its report, or none where its turns were spent.
+#[derive(Drop)]
+struct Made {
+    board: Board<Page>,
+    report: Option<String>,
 }
 
 /// Writes a text. Where the sink fails a prefix of it went out.
@@ -37,7 +48,7 @@ pub fn write_text<K: Sink>(sink: &mut K, text: &[u8])
 /// Reads a script to its end.
 fn read_script<S: Source>(alloc: Global, source: &mut S) -> Result<Script, Status>
     ensures good { IfOk result IsGoodScript }
-    ensures answerable { IfOk result (λ script. AreAnswerable script.threads) }
+    ensures built { IfOk result (λ script. AreBuilt script.threads) }
     ensures read { IfOk result (λ script. IsRead script (S.left source.old) (S.left source.new)) }
     ensures unread { IfErr result (λ status. IsUnread status
         (S.left source.old) (S.left source.new) (S.faults source.old) (S.faults source.new)) }
@@ -66,7 +77,7 @@ fn read_script<S: Source>(alloc: Global, source: &mut S) -> Result<Script, Statu
 /// Ends a trace that has no script. Only a bad script is told.
 fn refuse<K: Sink>(sink: &mut K, status: Status) -> TraceEnd
     ensures status { result.status ≡ status }
-    ensures none { result.cells ≡ None }
+    ensures none { result.board ≡ None }
     ensures told { Refuses status (K.held sink.old) (K.held sink.new) (K.faults sink.old) (K.faults sink.new) }
     ensures silent { IsSilent status → sink.new ≡ sink.old }
     ensures count { NeverFalls (K.faults sink.old) (K.faults sink.new) }
@@ -76,19 +87,46 @@ fn refuse<K: Sink>(sink: &mut K, status: Status) -> TraceEnd
     }
     TraceEnd {
         status,
-        cells: None,
+        board: None,
     }
+}
+
+/// Runs a script, and makes the text of its report. An error is want of memory.
+fn run(alloc: Global, script: &Script) -> Result<Made, AllocError>
+    requires good { IsGoodScript script.now }
+    requires built { AreBuilt script.now.threads }
+    ensures run { IfOk result (λ made. IsRunOf script.now (is_none made.report) made.board) }
+    ensures legal { IfOk result (λ made. IsLegal (ground_of script.now) made.board.history) }
+    ensures partial { IfOk result (λ made. ArePartial script.now made.board.history) }
+    ensures reported { IfOk result (λ made. IsReported script.now made.board.history (option_map string_bytes made.report)) }
+{
+    let Traced {
+        board,
+        logs,
+        is_spent,
+    } = trace(alloc, script)?;
+    if is_spent {
+        return Ok(Made {
+            board,
+            report: None,
+        });
+    }
+    let text = report(alloc, &logs)?;
+    Ok(Made {
+        board,
+        report: Some(text),
+    })
 }
 
 /// Ends a trace whose run was made.
 fn finish<K: Sink>(sink: &mut K, made: Made) -> TraceEnd
-    ensures cells { result.cells ≡ Some made.cells }
+    ensures board { result.board ≡ Some made.board }
     ensures finished { IsFinished result.status (option_map string_bytes made.report)
         (K.held sink.old) (K.held sink.new) (K.faults sink.old) (K.faults sink.new) }
     ensures flushed { result.status ≡ Status.Ok → K.is_flushed sink.new }
     ensures count { NeverFalls (K.faults sink.old) (K.faults sink.new) }
 {
-    let Made { cells, report } = made;
+    let Made { board, report } = made;
     let status = match report {
         Some(text) => write_report(sink, text.as_bytes()),
         None => {
@@ -98,7 +136,7 @@ fn finish<K: Sink>(sink: &mut K, made: Made) -> TraceEnd
     };
     TraceEnd {
         status,
-        cells: Some(cells),
+        board: Some(board),
     }
 }
 
@@ -119,7 +157,7 @@ fn write_report<K: Sink>(sink: &mut K, text: &[u8]) -> Status
 /// source fails or memory runs out the sink is not touched.
 pub fn run_trace<S: Source, K: Sink>(alloc: Global, source: &mut S, sink: &mut K) -> TraceEnd
     ensures end { IsTraceEnd (seen S.left S.faults K.held K.faults source.old sink.old)
-        (seen S.left S.faults K.held K.faults source.new sink.new) result.status result.cells }
+        (seen S.left S.faults K.held K.faults source.new sink.new) result.status result.board }
     ensures flushed { result.status ≡ Status.Ok → K.is_flushed sink.new }
     ensures untouched { IsSilent result.status → sink.new ≡ sink.old }
 {

@@ -49,10 +49,10 @@ pub fn run_words<S: Source, K: Sink>(
 ) -> TraceEnd
     ensures trace { AskTrace (map (λ word. word.now) words.now) → IsTraceEnd
         (seen S.left S.faults K.held K.faults source.old sink.old)
-        (seen S.left S.faults K.held K.faults source.new sink.new) result.status result.cells }
+        (seen S.left S.faults K.held K.faults source.new sink.new) result.status result.board }
     ensures usage { (AskTrace (map (λ word. word.now) words.now) → ⊥) → IsUsageEnd
         (seen S.left S.faults K.held K.faults source.old sink.old)
-        (seen S.left S.faults K.held K.faults source.new sink.new) result.status result.cells }
+        (seen S.left S.faults K.held K.faults source.new sink.new) result.status result.board }
     ensures unread { (AskTrace (map (λ word. word.now) words.now) → ⊥) → source.new ≡ source.old }
     ensures flushed { result.status ≡ Status.Ok → K.is_flushed sink.new }
     ensures untouched { IsSilent result.status → sink.new ≡ sink.old }
@@ -63,6 +63,6 @@ pub fn run_words<S: Source, K: Sink>(
     write_text(sink, b"usage: kn_run trace | run | gen N\n");
     TraceEnd {
         status: Status::Usage,
-        cells: None,
+        board: None,
     }
 }

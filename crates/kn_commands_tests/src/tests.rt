@@ -1,6 +1,8 @@
-use kn_base::Span;
+use kn_base::{FrameNo, FramePage};
+use kn_board::Board;
 use kn_commands::{Status, exit_of, run_trace, run_words};
 use kn_io::{MemSink, MemSource};
+use kn_page::Page;
 use kn_script::Why;
 use std::alloc::{AllocError, Global};
 use std::process::ExitCode;
@@ -28,6 +30,9 @@ const SEVENS: &str =
 
 const ARRAYS: &str =
     "heap 4 64 0 64 0 2\nnames 0 0 0 0\nlayout array ref\nlayout array int\nthreads 1\nthread 0\n";
+
+const SIZES: &str = "heap 1 64 2 128 0 2\nnames 0 0 0 0\nlayout array int\nthreads 1\n\
+    thread 0\nnewa 0 0 63\nnewa 1 0 64\nnewa 2 0 127\nnewa 3 0 128\n";
 
 /// Threads that meet in a global, and the order of their turns.
 const MEETING: &str = "heap 2 64 0 64 0 2\nnames 1 0 0 0\nlayout fields ref int\nthreads 3\n\
@@ -91,14 +96,15 @@ fn scripts_are_traced(rt: HostRuntime) -> Result<(), Fail> {
         (
             MEETING,
             "",
-            "thread 0\nok\nok\nok\nthread 1\nthread 2\nnull\nnil\nref\nno\ncalls 7\n",
+            "thread 0\nok\nok\nok\nthread 1\nthread 2\nnull\nnil\nnull\nyes\ncalls 7\n",
         ),
         (
             MEETING,
-            "order 0 0 0 0 1 2\norder 2",
+            "order 0 0 0 0 0 0 0 0 0 0 0 0\norder 0 0 0 0 1 2",
             "thread 0\nok\nok\nok\nthread 1\nthread 2\nref\nint 7\nref\nyes\ncalls 7\n",
         ),
         (SINGLES, births.as_str(), filled.as_str()),
+        (SIZES, "", "thread 0\nok\nok\nok\nfull\ncalls 4\n"),
     ];
     for (before, calls, wanted) in table {
         let script = format!(in rt.alloc(); "{before}{calls}")?;
@@ -112,21 +118,29 @@ fn scripts_are_traced(rt: HostRuntime) -> Result<(), Fail> {
     Ok(())
 }
 
+/// The word of a frame, and the free words of its page.
+fn frame_left(board: &Board<Page>, number: u16) -> Option<(u64, u32)> {
+    let frame = FrameNo(number);
+    let page = board.page(frame)?;
+    Some((board.frame_word(frame)?, page.free_words()))
+}
+
 #[test]
-fn births_take_the_next_room(rt: HostRuntime) -> Result<(), Fail> {
-    let births = repeated(rt.alloc(), "new 0 0\n", 5)?;
-    let script = format!(in rt.alloc(); "{SEVENS}{births}")?;
-    let mut source = MemSource::open(rt.alloc(), script.as_bytes(), 64, &[])?;
+fn frames_are_left(rt: HostRuntime) -> Result<(), Fail> {
+    let mut source = MemSource::open(rt.alloc(), SCRIPT.as_bytes(), 64, &[])?;
     let mut sink = MemSink::open(rt.alloc(), 1000, 64, &[])?;
-    let end = run_trace(rt.alloc(), &mut source, &mut sink);
-    let cells = end.cells.ok_or("no cells")?;
-    let spans = [
-        Span { start: 1, len: 15 },
-        Span { start: 16, len: 15 },
-        Span { start: 33, len: 15 },
-        Span { start: 48, len: 15 },
-    ];
-    assert!(rt; cells.born() == spans.as_slice() && cells.history().len() == 5);
+    let board = run_trace(rt.alloc(), &mut source, &mut sink)
+        .board
+        .ok_or("no board")?;
+    assert!(rt; frame_left(&board, 0) == Some((144_118_486_610_739_200, 61)));
+    let mut source = MemSource::open(rt.alloc(), SIZES.as_bytes(), 64, &[])?;
+    let mut sink = MemSink::open(rt.alloc(), 1000, 64, &[])?;
+    let board = run_trace(rt.alloc(), &mut source, &mut sink)
+        .board
+        .ok_or("no board")?;
+    assert!(rt; frame_left(&board, 0) == Some((216_209_065_997_500_416, 0)));
+    assert!(rt; frame_left(&board, 1) == Some((216_210_165_509_128_192, 63)));
+    assert!(rt; frame_left(&board, 2) == Some((216_210_165_509_128_192, 0)));
     Ok(())
 }
 
@@ -171,7 +185,7 @@ fn scripts_are_refused(rt: HostRuntime) -> Result<(), Fail> {
 
 #[test]
 fn turns_are_spent(rt: HostRuntime) -> Result<(), Fail> {
-    let table = [(1, 3), (2, 0), (3, 0)];
+    let table = [(1, 3), (14, 3), (15, 0), (16, 0)];
     for (turns, wanted) in table {
         let script = format!(in rt.alloc();
             "heap 1 64 0 64 0 2\nnames 0 0 0 0\nlayout fields ref int\nthreads 1\nturns {turns}\nthread 0\nnew 0 0\nsame 0 0\n"

@@ -10,6 +10,7 @@ pub mod Values
 pub mod Fields
 pub mod ReadLaws
 pub mod FieldLaws
+pub mod SmallWords
 pub mod Idle
 pub mod StoreLaws
 pub mod SetLaws

@@ -3,7 +3,7 @@
 ghost use Rattle.kn_rule.specs.declared.steps.Kind.TheVariants.{K1, K2, K3, K4, K5};
 ghost use Rattle.kn_rule.specs.declared.steps.Kind.TheVariants.{K6, K7, K8, K9, K10};
 ghost use Rattle.kn_rule.specs.declared.steps.Kind.TheVariants.{K11, K12};
-ghost use Rattle.kn_keep_heap.specs.Laws.{KeepsRule, StepsLieWithin};
+ghost use Rattle.kn_keep_heap.specs.Laws.{KeepsRule, LocalsAreAddresses, PhasesAreSmall, StepsKeepRule, StepsLieWithin};
 
 /// A poll keeps the rule.
 pub fn keeps_k1()
@@ -68,4 +68,15 @@ pub fn keeps_k12()
 /// Each step that a view allows is made at a place of the heap.
 pub fn places_lie()
     ensures { StepsLieWithin }
+{}
+
+/// Each step that a view allows keeps the rule, of whatever kind it is.
+pub fn steps_keep()
+    ensures { StepsKeepRule }
+{}
+
+/// Phases and addresses are short words.
+pub fn words_are_small()
+    ensures phases { PhasesAreSmall }
+    ensures locals { LocalsAreAddresses }
 {}

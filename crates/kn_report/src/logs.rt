@@ -37,6 +37,13 @@ impl Log {
         Ok(())
     }
 
+    /// The log of these entries.
+    pub fn from_vec(entries: Vec<Entry>) -> Log
+        ensures { result ≡ entries.items }
+    {
+        Log { entries }
+    }
+
     pub fn as_slice(&self) -> &[Entry]
         ensures { result.now ≡ self.now }
     {

@@ -1,34 +1,48 @@
--- Which thread each turn of a run is of, where a turn is one whole call. `calls` has for each thread the number of its calls.
-use Rattle.std.specs.Prelude.{◌≡◌, ℕ, zero, suc, ◌==◌, List, [], ◌∷◌, ◌++◌, count_by, sum, slice_index, if◌then◌else◌, nat_lt}
+-- Which thread takes the next turn of a run, where a turn is one atomic step.
+use Rattle.std.specs.Prelude.{◌≡◌, ℕ, ◌+◌, ◌<◌, ◌≤◌, ◌⊎◌, Bool, true, false, List, [], ◌∷◌, ◌++◌, All}
 
--- how many of these are this thread
-abbrev pub times : ℕ → List ℕ → ℕ
-times thread = count_by (λ other. other == thread)
+-- what is left of the order of turns: the threads that order words name, and the thread at which the round goes on
+pub record Left : Type 0 where
+  pub named : List ℕ
+  pub next : ℕ
 
--- a thread that is asked takes a turn exactly where it was asked fewer times before than it has calls
-abbrev pub turn_among : List ℕ → List ℕ → ℕ → List ℕ
-turn_among calls before thread = if nat_lt (times thread before) (slice_index calls thread) then thread ∷ [] else []
+-- a schedule: the number of its threads, and what is left of the order
+pub record Order : Type 0 where
+  pub count : ℕ
+  pub left : Left
 
--- the turns taken by threads that are asked one after another, behind those asked before
-abbrev pub turns_among : List ℕ → List ℕ → List ℕ → List ℕ
-turns_among calls before [] = []
-turns_among calls before (thread ∷ asked) = turn_among calls before thread ++ turns_among calls (before ++ thread ∷ []) asked
+-- all threads below a number have ended
+abbrev pub AllEnded : ℕ → (ℕ → Bool) → Type 0
+AllEnded count ended = (t : ℕ) → t < count → ended t ≡ true
 
--- the threads below a number, in order; a round asks all of them
-abbrev pub threads_below : ℕ → List ℕ
-threads_below zero = []
-threads_below (suc n) = threads_below n ++ n ∷ []
+-- all threads from one number up to another, which is not among them, have ended
+abbrev pub EndedBetween : (ℕ → Bool) → ℕ → ℕ → Type 0
+EndedBetween ended from to = (t : ℕ) → from ≤ t → t < to → ended t ≡ true
 
--- so many rounds, one after another
-abbrev pub rounds : ℕ → List ℕ
-rounds zero = []
-rounds (suc n) = threads_below 16 ++ rounds n
+-- a round that goes on at a place comes to this thread, since all threads between have ended
+abbrev pub ComesTo : ℕ → (ℕ → Bool) → ℕ → ℕ → Type 0
+ComesTo count ended place thread =
+    ((place ≤ thread) × EndedBetween ended place thread)
+    ⊎ ((thread < place) × EndedBetween ended place count × AllEnded thread ended)
 
--- the turns of a run without an end: the threads that the schedule names are asked, and then there are rounds, as many
--- as there are calls, which is enough for all of them
-abbrev pub turns_of : List ℕ → List ℕ → List ℕ
-turns_of named calls = turns_among calls [] (named ++ rounds (sum calls))
+-- the next turn is of the first thread named that has not ended, and the words behind it are left
+pub record FromWord (count : ℕ) (ended : ℕ → Bool) (left : Left) (thread : ℕ) (left' : Left) : Type 0 where
+  pub passed : List ℕ
+  pub rest : List ℕ
+  pub words : left.named ≡ passed ++ thread ∷ rest
+  pub none_before : All (λ t. ended t ≡ true) passed
+  pub is_thread : thread < count
+  pub runs : ended thread ≡ false
+  pub after : left' ≡ record left { named = rest }
 
--- each thread has as many turns as calls
-abbrev pub IsInFull : List ℕ → List ℕ → Type 0
-IsInFull turns calls = (thread : ℕ) → times thread turns ≡ slice_index calls thread
+-- all threads named have ended, the next turn is of the thread that the round comes to, and the round goes on behind it
+pub record FromRound (count : ℕ) (ended : ℕ → Bool) (left : Left) (thread : ℕ) (left' : Left) : Type 0 where
+  pub words : All (λ t. ended t ≡ true) left.named
+  pub is_thread : thread < count
+  pub runs : ended thread ≡ false
+  pub comes : ComesTo count ended left.next thread
+  pub after : left' ≡ record { named = []; next = thread + 1 }
+
+-- the next turn is of this thread, and this is left behind it
+abbrev pub IsNext : ℕ → (ℕ → Bool) → Left → ℕ → Left → Type 0
+IsNext count ended left thread left' = FromWord count ended left thread left' ⊎ FromRound count ended left thread left'

@@ -1,13 +1,15 @@
-//! The order of turns: which thread each turn of a run is of.
+//! The order of turns: which thread takes the next turn, where a turn is one atomic step.
 //!
-//! This crate owns the order of turns, as a list that is a function of the words of the schedule
-//! and the numbers of calls (`turns_of` in `specs/Schedules.antt`). A turn is one whole call.
-//! Nothing is kept between two turns.
+//! This crate owns the order of turns (`IsNext` in `specs/Schedules.antt`), and is asked before each
+//! turn. A schedule keeps the threads that order words name and the place of the round; only
+//! `next_turn` changes them. Between any two calls each thread named is one of the schedule's, and
+//! the place of the round is at most their number. Who has ended is not kept here, but told in each
+//! call.
 #![tactic(auto)]
 
-mod turns;
+mod schedule;
 
-pub use turns::turns_of;
+pub use schedule::Schedule;
 
 #[cfg(test)]
 mod tests;

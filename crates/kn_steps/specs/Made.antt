@@ -36,9 +36,10 @@ here_by here p old f _ = here
 abbrev pub here_after : (ℕ → Bool) → Step → Found → ℕ → Bool
 here_after here d f = here_by here (frame_in d.place) (word_wanted d.act) f d.kind
 
--- a step was made that found f: the caller's view is the one that the rule gives; where the pages lie is told; and all that
--- the rule gives for the view before and what was found
+-- a step was made that found f: the view before allows it; the caller's view is the one that the rule gives; where the pages
+-- lie is told; and all that the rule gives for the view before and what was found
 pub record Made (a : Stand) (here : ℕ → Bool) (d : Step) (f : Found) (b : Stand) (here' : ℕ → Bool) : Type 0 where
+  pub may : Allowed a here d
   pub view : b ≡ stand_after a d f
   pub lies : LieAs b.view (here_after here d f) here'
   pub shown : Shown a.heap a.by a.view d f
@@ -66,8 +67,9 @@ abbrev pub Gives : Ground → View → ℕ → Option FrameView → Option Frame
 Gives z v p None result = (page : FrameView) × (result ≡ Some page) × IsPageOfOwned z p (owns v p) page
 Gives z v p (Some page) result = result ≡ None
 
--- a page was moved: the view stays, and the page lies in its slot exactly where it was given back
+-- a page was moved by the owner of its frame: the view stays, and the page lies in its slot exactly where it was given back
 pub record Moved (a : Stand) (here : ℕ → Bool) (p : ℕ) (page result : Option FrameView) (b : Stand) (here' : ℕ → Bool) : Type 0 where
+  pub may : MayMove a here p page
   pub view : b ≡ a
   pub lies : LieAs b.view (upd here p (is_some page)) here'
   pub gives : Gives a.heap a.view p page result

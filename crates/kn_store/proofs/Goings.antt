@@ -1,5 +1,6 @@
 -- A look that does not end the search leaves the finder and the view in agreement.
-use Rattle.std.proofs.Common.{◌≡◌, ℕ, ◌+◌, ◌<◌, ◌⊎◌, inl, inr, Bool, true, false, Some, slice_set, sym, ap, ◌∙◌, subst, arith}
+use Rattle.std.proofs.Common.{◌≡◌, ℕ, ◌+◌, ◌<◌, ◌⊎◌, inl, inr, ◌↔◌, Bool}
+use Rattle.std.proofs.Common.{true, false, Some, slice_set, refl, sym, ap, ◌∙◌, subst, arith}
 use Rattle.std.proofs.lemmas.Bool.{cases_Bool}
 use Rattle.kn_base.specs.Sizes.{frame_count}
 use Rattle.kn_base.specs.declared.places.Place.TheVariants.{Frame}
@@ -10,7 +11,9 @@ use Rattle.kn_rule.specs.Steps.{Step, Found, logged}
 use Rattle.kn_rule.specs.Outcomes.{full_if, looked_at, saw}
 use Rattle.kn_rule.specs.Views.{View}
 use Rattle.kn_steps.specs.Made.{LieAs, Made, Stand}
-use Rattle.kn_store.specs.Search.{Search, IsOver, first_of}
+use Rattle.kn_store.specs.declared.look.Look.{Look}
+use Rattle.kn_store.specs.declared.look.Look.TheVariants.{Looking, Found as Claimed, Full}
+use Rattle.kn_store.specs.Search.{GoesOn, IsOver, Search, first_of}
 use Rattle.kn_store.specs.Agree.{Agrees, KnowsSame, OnlySaw, SawFull}
 use Rattle.kn_store.proofs.Ends.{over_shown, over_told}
 
@@ -20,6 +23,12 @@ pub found_packs : (a b : Stand) (here here' : ℕ → Bool) (d : Step) (f : Foun
 found_packs a b here here' d f p made e l =
     let shown = made.shown in
     subst PacksFrame (ap shown.0.word (sym e) ∙ shown.3.0) (shown.1.1.stands.framed.packs p l)
+
+-- Full says that the search is over
+pub full_where : (m : Search) (look : Look) → GoesOn m look → (look ≡ Full) ↔ IsOver m
+full_where m Looking h = (λ e. absurd (cc), λ o. absurd (h o))
+full_where m (Claimed p w) h = absurd h
+full_where m Full h = (λ _. h, λ _. refl)
 
 module _ (m m' : Search) (a b : Stand) (g : Agrees m a) (i : ℕ) (act : Action) (f : Found) where
   abbrev frame : ℕ

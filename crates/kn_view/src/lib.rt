@@ -16,4 +16,6 @@ mod stores;
 mod words;
 
 pub use known::Known;
-pub use words::{class_of, left_by, stored_by, wanted_by};
+pub use loads::{field_of, kind_told, reply_to_reference};
+pub use polls::answer_alone;
+pub use words::{class_of, left_by, pauses_before, runs, stored_by, wanted_by};

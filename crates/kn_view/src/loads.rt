@@ -96,8 +96,8 @@ impl Known {
     }
 }
 
-// The local that names the object of a call on a field, the field, and the kind wanted.
-fn field_of(call: Call) -> Option<(u8, u32, FieldKind)>
+/// The local that names the object of a call on a field, the field, and the kind wanted.
+pub fn field_of(call: Call) -> Option<(u8, u32, FieldKind)>
     ensures { result ≡ Rattle.kn_rule.specs.Requests.field_of call }
 {
     match call {
@@ -109,8 +109,8 @@ fn field_of(call: Call) -> Option<(u8, u32, FieldKind)>
     }
 }
 
-// The answer where a reference was read.
-fn reply_to_reference(address: u32) -> Reply
+/// The answer where a reference was read.
+pub fn reply_to_reference(address: u32) -> Reply
     ensures { result ≡ ref_word address }
 {
     if address == 0 {
@@ -120,8 +120,8 @@ fn reply_to_reference(address: u32) -> Reply
     }
 }
 
-// The kind of a field of the object that a header tells of.
-fn kind_told(layouts: &[Layout], word: u64, field: u32) -> Option<FieldKind>
+/// The kind of a field of the object that a header tells of, and none where it has no such field.
+pub fn kind_told(layouts: &[Layout], word: u64, field: u32) -> Option<FieldKind>
     ensures { (z : Ground) → z.layouts ≡ layouts.now → result ≡ told_kind z word field }
 {
     let (layout, length) = shape_told(word);

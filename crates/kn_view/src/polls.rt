@@ -9,6 +9,7 @@ ghost use Rattle.kn_graph.specs.Ground.{Ground, IsGoodGround};
 ghost use Rattle.kn_rule.specs.declared.steps.Action.TheVariants.{LoadsFor};
 ghost use Rattle.kn_rule.specs.Requests.{class_asked, asks_too_much};
 ghost use Rattle.kn_rule.specs.Steps.{found};
+ghost use Rattle.kn_rule.specs.Views.{View};
 ghost use Rattle.kn_rule.specs.Outcomes.{polled, poll_run, view_answer};
 ghost use Rattle.kn_view.specs.Parts.{Makes, MayBegin, ground_of, view_with};
 
@@ -122,33 +123,48 @@ impl Known {
         ensures { (owned : _) (log : _) → let z : Ground = ground_of sizes.now layouts.now in
             result ≡ view_answer z (view_with z self.now owned log) call }
     {
-        match call {
-            Call::New(_, _) => is_too_much(sizes, layouts, call),
-            Call::NewArray(_, _, _) => is_too_much(sizes, layouts, call),
-            Call::Same(r, s) => {
-                if self.local(r) == self.local(s) {
-                    Some(Reply::Yes)
-                } else {
-                    Some(Reply::No)
-                }
-            }
-            Call::Get(_, s, _) => self.nil_at(s),
-            Call::Set(s, _, _) => self.nil_at(s),
-            Call::Put(s, _, _) => self.nil_at(s),
-            Call::Read(s, _) => self.nil_at(s),
-            _ => None,
-        }
+        answer_alone(sizes, layouts, &self.locals, call)
     }
+}
 
-    fn nil_at(&self, r: u8) -> Option<Reply>
-        requires { r < 16 }
-        ensures { result ≡ cond (slice_index self.now.locals r == 0) (Some Nil) None }
-    {
-        if self.local(r) == 0 {
-            Some(Reply::Nil)
-        } else {
-            None
+/// What a view with these locals alone answers: whether two locals hold one object, that a local is
+/// null, that a cell is longer than a frame of its area or that the area has no frame.
+pub fn answer_alone(
+    sizes: &Sizes,
+    layouts: &[Layout],
+    locals: &[u32; 16],
+    call: Call,
+) -> Option<Reply>
+    requires good { IsGoodGround (ground_of sizes.now layouts.now) }
+    requires in_range { IsInRange (ground_of sizes.now layouts.now) call }
+    ensures { (v : View) → result ≡ view_answer (ground_of sizes.now layouts.now) (record v { locals = locals.now }) call }
+{
+    match call {
+        Call::New(_, _) => is_too_much(sizes, layouts, call),
+        Call::NewArray(_, _, _) => is_too_much(sizes, layouts, call),
+        Call::Same(r, s) => {
+            if locals[r as usize] == locals[s as usize] {
+                Some(Reply::Yes)
+            } else {
+                Some(Reply::No)
+            }
         }
+        Call::Get(_, s, _) => nil_at(locals, s),
+        Call::Set(s, _, _) => nil_at(locals, s),
+        Call::Put(s, _, _) => nil_at(locals, s),
+        Call::Read(s, _) => nil_at(locals, s),
+        _ => None,
+    }
+}
+
+fn nil_at(locals: &[u32; 16], r: u8) -> Option<Reply>
+    requires { r < 16 }
+    ensures { result ≡ cond (slice_index locals.now r == 0) (Some Nil) None }
+{
+    if locals[r as usize] == 0 {
+        Some(Reply::Nil)
+    } else {
+        None
     }
 }
 

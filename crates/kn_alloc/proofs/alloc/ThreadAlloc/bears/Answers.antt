@@ -1,7 +1,7 @@
 use Rattle.std.proofs.Common.{sym, subst}
 use Rattle.kn_alloc.specs.Keeps.{Keeps}
 use Rattle.kn_alloc.specs.Agree.{Agrees}
-use Rattle.kn_alloc.proofs.Stages.{born, born_stands, may_bear}
+use Rattle.kn_alloc.proofs.Stages.{born, born_told, may_bear}
 use Rattle.kn_alloc.proofs.alloc.ThreadAlloc.bears.Goals as goal
 
 pub store-requires : goal.store-requires
@@ -18,7 +18,7 @@ returns-clause-agrees g c =
     (born c.args.self.now a (g.T.Steps.here c.args.steps.now) c.requires.agrees c.args.cell c.requires.stage c.mark.result c.mark.ensures b here'
     c.store.ensures.0 c.store.ensures.1)
 
-pub returns-clause-stands : goal.returns-clause-stands
-returns-clause-stands g c =
-    born_stands c.args.self.now (g.T.Steps.stand c.args.steps.now) (g.T.Steps.here c.args.steps.now) c.requires.agrees c.args.cell c.requires.stage
+pub returns-clause-tells : goal.returns-clause-tells
+returns-clause-tells g c =
+    born_told c.args.self.now (g.T.Steps.stand c.args.steps.now) (g.T.Steps.here c.args.steps.now) c.requires.agrees c.args.cell c.requires.stage
     c.mark.result c.mark.ensures (g.T.Steps.stand c.store.new.self) (g.T.Steps.here c.store.new.self) c.store.ensures.0 c.store.ensures.1

@@ -1,7 +1,7 @@
 use Rattle.std.proofs.Common.{sym, ap, ◌∙◌, subst}
 use Rattle.kn_alloc.specs.declared.stage.Stage.{Stage}
 use Rattle.kn_alloc.specs.Keeps.{Keeps}
-use Rattle.kn_alloc.specs.Turns.{StandsBehind, TurnedAt}
+use Rattle.kn_alloc.specs.Turns.{TurnedAt}
 use Rattle.kn_alloc.proofs.alloc.ThreadAlloc.goes_on.Goals as goal
 
 pub returns-in-TooLong-clause-turned : goal.returns-in-TooLong-clause-turned
@@ -45,45 +45,3 @@ returns-in-Bears-clause-turned g c =
     let h = c.bears in
     subst (λ (s : Stage). TurnedAt g.T.Steps.stand g.T.Steps.here g.T.Steps.did g.T.Steps.moved s c.args.self.now c.args.steps.now h.new.steps
     h.new.self h.result) (sym (ap (λ (m : Keeps). m.stage) (sym c.self.view_is) ∙ c.in-Bears.is)) h.ensures.turned
-
-pub returns-in-TooLong-clause-stands : goal.returns-in-TooLong-clause-stands
-returns-in-TooLong-clause-stands g c =
-    let h = c.denies in
-    subst (λ (s : Stage). StandsBehind s h.result (g.T.Steps.stand h.new.steps).view.position)
-    (sym (ap (λ (m : Keeps). m.stage) (sym c.self.view_is) ∙ c.in-TooLong.is)) tt
-
-pub returns-in-Returns-clause-stands : goal.returns-in-Returns-clause-stands
-returns-in-Returns-clause-stands g c =
-    let h = c.returns in
-    subst (λ (s : Stage). StandsBehind s h.result (g.T.Steps.stand h.new.steps).view.position)
-    (sym (ap (λ (m : Keeps). m.stage) (sym c.self.view_is) ∙ c.in-Returns.is)) h.ensures.stands
-
-pub returns-in-Homes-clause-stands : goal.returns-in-Homes-clause-stands
-returns-in-Homes-clause-stands g c =
-    let h = c.gives_back in
-    subst (λ (s : Stage). StandsBehind s h.result (g.T.Steps.stand h.new.steps).view.position)
-    (sym (ap (λ (m : Keeps). m.stage) (sym c.self.view_is) ∙ c.in-Homes.is)) h.ensures.stands
-
-pub returns-in-Searches-clause-stands : goal.returns-in-Searches-clause-stands
-returns-in-Searches-clause-stands g c =
-    let h = c.searches in
-    subst (λ (s : Stage). StandsBehind s h.result (g.T.Steps.stand h.new.steps).view.position)
-    (sym (ap (λ (m : Keeps). m.stage) (sym c.self.view_is) ∙ c.in-Searches.is)) h.ensures.stands
-
-pub returns-in-Takes-clause-stands : goal.returns-in-Takes-clause-stands
-returns-in-Takes-clause-stands g c =
-    let h = c.takes in
-    subst (λ (s : Stage). StandsBehind s h.result (g.T.Steps.stand h.new.steps).view.position)
-    (sym (ap (λ (m : Keeps). m.stage) (sym c.self.view_is) ∙ c.in-Takes.is)) h.ensures.stands
-
-pub returns-in-Clears-clause-stands : goal.returns-in-Clears-clause-stands
-returns-in-Clears-clause-stands g c =
-    let h = c.clears in
-    subst (λ (s : Stage). StandsBehind s h.result (g.T.Steps.stand h.new.steps).view.position)
-    (sym (ap (λ (m : Keeps). m.stage) (sym c.self.view_is) ∙ c.in-Clears.is)) h.ensures.stands
-
-pub returns-in-Bears-clause-stands : goal.returns-in-Bears-clause-stands
-returns-in-Bears-clause-stands g c =
-    let h = c.bears in
-    subst (λ (s : Stage). StandsBehind s h.result (g.T.Steps.stand h.new.steps).view.position)
-    (sym (ap (λ (m : Keeps). m.stage) (sym c.self.view_is) ∙ c.in-Bears.is)) h.ensures.stands

@@ -6,6 +6,7 @@ use Rattle.kn_alloc.specs.Agree.{Agrees}
 use Rattle.kn_base.specs.Functions.{upd}
 use Rattle.std.proofs.Common.{true}
 use Rattle.kn_alloc.proofs.Returns.{may_go_back, returned}
+use Rattle.kn_alloc.proofs.Told.{tells_still}
 use Rattle.kn_alloc.proofs.alloc.ThreadAlloc.returns.Goals as goal
 
 pub move_page-requires : goal.move_page-requires
@@ -31,3 +32,7 @@ returns-clause-agrees g c =
     (returned m a here c.requires.agrees c.requires.stage hand (subst (λ k. HasHand m.hands k hand) c.class_asked.ensures c.hand_out-hand.ensures.had)
     c.home_word-word.result c.home_word-word.ensures here'
     (subst (λ (b : Stand). LieAs b.view (upd here hand.frame true) here') moved.view moved.lies)))
+
+pub returns-clause-tells : goal.returns-clause-tells
+returns-clause-tells g c =
+    tells_still c.args.self.now.stage (g.T.Steps.stand c.args.steps.now) (g.T.Steps.stand c.move_page.new.self) c.move_page.ensures.moved.view

@@ -7,6 +7,7 @@ use Rattle.kn_alloc.specs.Cells.{AsksFor}
 use Rattle.kn_alloc.specs.Keeps.{Keeps, Tries}
 use Rattle.kn_alloc.specs.Agree.{Agrees}
 use Rattle.kn_alloc.proofs.Comes.{asks_right, came, may_come, own_page}
+use Rattle.kn_alloc.proofs.Told.{tells_still}
 use Rattle.kn_alloc.proofs.alloc.ThreadAlloc.takes.Goals as goal
 
 pub move_page-requires : goal.move_page-requires
@@ -60,3 +61,7 @@ returns-clause-agrees g c =
     (came m a here c.requires.agrees c.args.frame c.args.old c.requires.stage page own t.left (t.frame ∙ h.frame) (t.stamp ∙ h.stamp) t.stage
     (subst (λ (p : FrameView). Tries p m.words (page_view t.left.page) t.stage) h.page t.tries) here'
     (subst (λ (b : Stand). LieAs b.view (upd here c.args.frame false) here') moved.view moved.lies)))
+
+pub returns-clause-tells : goal.returns-clause-tells
+returns-clause-tells g c =
+    tells_still c.args.self.now.stage (g.T.Steps.stand c.args.steps.now) (g.T.Steps.stand c.move_page.new.self) (c.in-Some.ensures).moved.view

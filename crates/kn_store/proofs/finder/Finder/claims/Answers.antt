@@ -11,7 +11,7 @@ use Rattle.kn_base.proofs.Updates.{upd_same}
 use Rattle.kn_steps.specs.Made.{LieAs}
 use Rattle.kn_store.specs.Search.{GoesOn, IsOver, Search, saw_again}
 use Rattle.kn_store.specs.Agree.{Agrees}
-use Rattle.kn_store.proofs.Goings.{agrees_still, found_packs, shows}
+use Rattle.kn_store.proofs.Goings.{agrees_still, found_packs, full_where, shows}
 use Rattle.kn_store.proofs.Sights.{sees_again}
 use Rattle.kn_store.proofs.finder.Finder.claims.Goals as goal
 use Rattle.kn_store.proofs.Claims.{may_claim, near}
@@ -89,3 +89,6 @@ returns-in-Err-clause-ended g c = λ e.
     (sees_again m a.view.seen a.view.refused c.requires.agrees.same w c.args.number c.args.seen c.requires.best.near c.requires.best.at)
     (h.1.view ∙ (λ t. record a { view = logged (claimed_if a.heap a.by a.view (Frame (c.frame-frame.ensures t)) act (found w h.0) (lost t)) }))
     here here' (subst (λ (h : ℕ → Bool). LieAs b.view h here') stay h.1.lies)).1 (subst IsOver c.sees_again.ensures going)
+
+pub returns-in-Err-clause-full : goal.returns-in-Err-clause-full
+returns-in-Err-clause-full g c = full_where c.sees_again.new.self c.goes_on.result c.goes_on.ensures

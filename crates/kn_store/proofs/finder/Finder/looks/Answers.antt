@@ -5,7 +5,7 @@ use Rattle.kn_rule.specs.declared.steps.Kind.TheVariants.{K9}
 use Rattle.kn_rule.specs.Steps.{does, found}
 use Rattle.kn_steps.specs.Made.{stand_after}
 use Rattle.kn_store.specs.Search.{GoesOn, IsOver, Search, first_of, saw_next}
-use Rattle.kn_store.specs.Agree.{Agrees, OnlySaw, SawFull}
+use Rattle.kn_store.specs.Agree.{Agrees}
 use Rattle.kn_store.proofs.Goings.{agrees_still, shows}
 use Rattle.kn_store.proofs.Sights.{sees_next}
 use Rattle.kn_store.proofs.finder.Finder.looks.Goals as goal

@@ -1,0 +1,122 @@
+-- How what a mutator keeps agrees with what its caller knows.
+use Rattle.std.specs.Prelude.{◌≡◌, ℕ, ◌+◌, ◌<◌, ◌≤◌, ◌⊎◌, Bool, true}
+use Rattle.std.specs.Prelude.{false, List, length, Option, Some, None, slice_get, slice_index, take}
+use Rattle.std.specs.List.{AllByRecursion}
+use Rattle.kn_base.specs.declared.limits.TheConstants.{LOCALS}
+use Rattle.kn_layout.specs.declared.layouts.FieldKind.{FieldKind}
+use Rattle.kn_graph.specs.declared.calls.Call.{Call}
+use Rattle.kn_graph.specs.Arguments.{IsInRange}
+use Rattle.kn_graph.specs.Counts.{births_among, makes_object}
+use Rattle.kn_graph.specs.Ground.{Ground, IsGoodGround}
+use Rattle.kn_graph.specs.Logs.{calls_of}
+use Rattle.kn_rule.specs.declared.positions.Position.{Position}
+use Rattle.kn_rule.specs.declared.positions.Position.TheVariants as positions
+use Rattle.kn_rule.specs.Allowed.{IsBuilt}
+use Rattle.kn_rule.specs.Requests.{field_of, told_kind}
+use Rattle.kn_rule.specs.Views.{View}
+use Rattle.kn_steps.specs.Made.{Stand}
+use Rattle.kn_alloc.specs.declared.stage.Stage.TheVariants.{Resting}
+use Rattle.kn_alloc.specs.Agree.{Agrees as AllocAgrees, IsGetting, IsIdle}
+use Rattle.kn_mutator.specs.declared.task.Task.{Task}
+use Rattle.kn_mutator.specs.declared.task.Task.TheVariants.{Out, GoesIn, Enters, Polls, Calls, Births, Writes, SendsSingle, Leaves, Ends, Ended}
+use Rattle.kn_mutator.specs.Begun.{alone}
+use Rattle.kn_mutator.specs.Mutating.{Knows, Mutating}
+use Rattle.kn_mutator.specs.Tasks.{has_single}
+
+-- the calls of thread c: each is built and in range, and the sizes count them and their births
+pub record Planned (z : Ground) (c : ℕ) (calls : List Call) : Type 0 where
+  pub good : IsGoodGround z
+  pub thread : c < z.sizes.threads
+  pub calls_are : slice_index z.sizes.calls c ≡ length calls
+  pub births_are : slice_index z.sizes.births c ≡ births_among calls
+  pub built : AllByRecursion IsBuilt calls
+  pub in_range : AllByRecursion (IsInRange z) calls
+
+-- the log answers the first n calls, each once, in order
+pub record Answers (m : Mutating) (n : ℕ) : Type 0 where
+  pub calls : calls_of m.log ≡ take n m.calls
+  pub count : length m.log ≡ n
+  pub within : n ≤ length m.calls
+
+-- this call is begun and not answered, and all before it are answered
+pub record UnderWay (m : Mutating) (call : Call) : Type 0 where
+  pub number : ℕ
+  pub begun : m.begun ≡ number + 1
+  pub is_call : slice_get m.calls number ≡ Some call
+  pub answers : Answers m number
+
+-- no call is under way, and the allocator rests
+pub record Rests (m : Mutating) (v : View) (at : Position) : Type 0 where
+  pub position : v.position ≡ at
+  pub answers : Answers m m.begun
+  pub alloc : m.alloc.stage ≡ Resting
+
+-- no call is under way, and pages may go home
+pub record MayGoHome (m : Mutating) : Type 0 where
+  pub answers : Answers m m.begun
+  pub alloc : IsIdle m.alloc.stage
+
+abbrev pub HasLeft : Mutating → Type 0
+HasLeft m = m.begun < length m.calls
+
+-- the local that names the object of a call on a field has one
+abbrev pub IsObjectIn : (ℕ → ℕ) → Option (ℕ × ℕ × FieldKind) → Type 0
+IsObjectIn local None = Unit {0}
+IsObjectIn local (Some t) = 0 < local t.0
+
+-- the header that was read tells that the field is of the kind wanted
+abbrev pub IsHeaderRead : Ground → Option (ℕ × ℕ × FieldKind) → Option ℕ → Type 0
+IsHeaderRead z None h = Unit {0}
+IsHeaderRead z (Some t) None = Unit {0}
+IsHeaderRead z (Some t) (Some h) = told_kind z h t.1 ≡ Some t.2
+
+-- a call at its own steps: the view alone does not answer it, its object is there, and the header that was read tells that the
+-- field is of the kind wanted
+pub record CallsAt (m : Mutating) (v : View) (call : Call) (h : Option ℕ) : Type 0 where
+  pub position : v.position ≡ positions.Calling call
+  pub header : v.header ≡ h
+  pub no_birth : makes_object call ≡ false
+  pub not_alone : alone m call ≡ None
+  pub under_way : UnderWay m call
+  pub alloc : m.alloc.stage ≡ Resting
+  pub object : IsObjectIn (λ r. slice_index m.locals r) (field_of call)
+  pub read : IsHeaderRead m.heap (field_of call) h
+
+-- a birth whose cell the allocator gets
+pub record BirthAt (m : Mutating) (v : View) (call : Call) : Type 0 where
+  pub position : v.position ≡ positions.Calling call
+  pub birth : makes_object call ≡ true
+  pub under_way : UnderWay m call
+  pub alloc : IsGetting m.alloc.stage
+
+-- what each task needs
+abbrev pub AtTask : Task → Mutating → View → Type 0
+AtTask Out m v = Rests m v positions.Out × HasLeft m
+AtTask GoesIn m v = Rests m v positions.Out × HasLeft m
+AtTask Enters m v = Rests m v positions.Entering × HasLeft m
+AtTask Polls m v = Rests m v positions.Between × HasLeft m
+AtTask (Calls call h) m v = CallsAt m v call h
+AtTask (Births call) m v = BirthAt m v call
+AtTask (Writes r w) m v = Rests m v (positions.Writing r w 0)
+AtTask SendsSingle m v = (v.position ≡ positions.Between) × MayGoHome m × HasLeft m × (m.alloc.stage ≡ Resting → has_single m.alloc.hands ≡ true)
+AtTask Leaves m v = ((v.position ≡ positions.Leaving) ⊎ (v.position ≡ positions.Entering)) × MayGoHome m × HasLeft m
+AtTask Ends m v = ((v.position ≡ positions.Between) ⊎ (v.position ≡ positions.Out)) × MayGoHome m × (m.begun ≡ length m.calls)
+AtTask Ended m v = (v.position ≡ positions.Ended) × Answers m m.begun × (m.begun ≡ length m.calls)
+
+-- whose mutator it is, over which heap; what it keeps of the view is what the view has, and its allocator agrees with it
+pub record Agrees (m : Mutating) (a : Stand) (here : ℕ → Bool) : Type 0 where
+  pub alloc : AllocAgrees m.alloc a here
+  pub heap : a.heap ≡ m.heap
+  pub caller : m.alloc.by ≡ m.by
+  pub knows : Knows m a.view
+  pub planned : Planned m.heap m.by m.calls
+  pub births : a.view.births ≡ births_among (take m.begun m.calls)
+  pub target : a.view.target ≡ None
+  pub width : length m.locals ≡ LOCALS
+  pub addresses : (r : ℕ) → r < LOCALS → slice_index m.locals r ≤ 1000000
+  pub at : AtTask m.task m a.view
+
+-- it has ended
+abbrev pub HasEnded : Task → Type 0
+HasEnded Ended = Unit {0}
+HasEnded _ = ⊥

@@ -1,0 +1,131 @@
+-- What a mutator does next: the step of each task, and the task behind it.
+use Rattle.std.specs.Prelude.{ℕ, ◌+◌, Bool, true, false, cond, List, length, Option, Some, None, is_some, nat_lt, slice_get, slice_index}
+use Rattle.kn_base.specs.declared.classes.TheConstants.{SINGLE_CLASS}
+use Rattle.kn_base.specs.declared.kinds.Code.{Code}
+use Rattle.kn_base.specs.declared.kinds.Code.TheVariants as codes
+use Rattle.kn_base.specs.declared.places.Place.TheVariants.{Phase, State, Local, Global, Body}
+use Rattle.kn_graph.specs.declared.calls.Call.{Call}
+use Rattle.kn_graph.specs.declared.calls.Call.TheVariants.{Copy, Clear, Get, Set, Put, Read, GlobalSet, GlobalGet}
+use Rattle.kn_graph.specs.Counts.{makes_object}
+use Rattle.kn_rule.specs.declared.steps.Kind.TheVariants.{K1, K2, K3, K4, K5, K6, K7}
+use Rattle.kn_rule.specs.declared.steps.Action.TheVariants.{Loads, LoadsFor, Stores}
+use Rattle.kn_rule.specs.declared.positions.Position.{Position}
+use Rattle.kn_rule.specs.declared.positions.Position.TheVariants as positions
+use Rattle.kn_rule.specs.Decoding.{phase_of}
+use Rattle.kn_rule.specs.Phases.{is_run}
+use Rattle.kn_rule.specs.Steps.{Step, does}
+use Rattle.kn_rule.specs.Views.{View, flattened}
+use Rattle.kn_steps.specs.declared.turns.Turn.{Turn}
+use Rattle.kn_steps.specs.declared.turns.Turn.TheVariants.{Moved, Idle}
+use Rattle.kn_alloc.specs.declared.stage.Hand.{Hand}
+use Rattle.kn_alloc.specs.declared.stage.Stage.{Stage}
+use Rattle.kn_alloc.specs.declared.stage.Stage.TheVariants.{Resting}
+use Rattle.kn_mutator.specs.declared.task.Task.{Task}
+use Rattle.kn_mutator.specs.declared.task.Task.TheVariants.{Out, GoesIn, Enters, Polls, Calls, Births, Writes, SendsSingle, Leaves, Ends, Ended}
+use Rattle.kn_mutator.specs.Mutating.{Mutating}
+
+-- the call that is begun next, where the gate lets it pass
+abbrev pub next_call : Mutating → Bool → Option Call
+next_call m passed = cond passed (slice_get m.calls m.begun) None
+
+-- the step that a call makes next, for the locals of thread c and the header that was read; none of a call whose cell is to be
+-- got, or that the poll answers
+abbrev pub call_step : ℕ → (ℕ → ℕ) → Call → Option ℕ → Option Step
+call_step c local (Copy r s) h = Some (does K3 (Local c r) (Stores (local s)))
+call_step c local (Clear r) h = Some (does K3 (Local c r) (Stores 0))
+call_step c local (Get r s i) None = Some (does K4 (Body (local s)) Loads)
+call_step c local (Get r s i) (Some h) = Some (does K4 (Body (local s + 1 + i)) Loads)
+call_step c local (Set s i r) None = Some (does K4 (Body (local s)) Loads)
+call_step c local (Set s i r) (Some h) = Some (does K5 (Body (local s + 1 + i)) (Stores (local r)))
+call_step c local (Put s i n) None = Some (does K4 (Body (local s)) Loads)
+call_step c local (Put s i n) (Some h) = Some (does K5 (Body (local s + 1 + i)) (Stores n))
+call_step c local (Read s i) None = Some (does K4 (Body (local s)) Loads)
+call_step c local (Read s i) (Some h) = Some (does K4 (Body (local s + 1 + i)) Loads)
+call_step c local (GlobalSet i r) h = Some (does K7 (Global i) (Stores (local r)))
+call_step c local (GlobalGet r i) h = Some (does K6 (Global i) Loads)
+call_step c local _ h = None
+
+abbrev pub local_kept : Mutating → ℕ → ℕ
+local_kept m r = slice_index m.locals r
+
+-- the step of a task that asks nothing of the allocator
+abbrev pub task_step : Mutating → Bool → Task → Option Step
+task_step m passed Out = Some (does K1 Phase (LoadsFor None))
+task_step m passed GoesIn = Some (does K2 (State m.by) (Stores 1))
+task_step m passed Enters = Some (does K1 Phase (LoadsFor (next_call m passed)))
+task_step m passed Polls = Some (does K1 Phase (LoadsFor (next_call m passed)))
+task_step m passed (Calls call h) = call_step m.by (local_kept m) call h
+task_step m passed (Writes r w) = Some (does K3 (Local m.by r) (Stores w))
+task_step m passed _ = None
+
+-- a page for a single object is in hand
+abbrev pub has_single : List (Option Hand) → Bool
+has_single hands = is_some (flattened (slice_get hands SINGLE_CLASS))
+
+-- a call is left to begin
+abbrev pub has_left : Mutating → Bool
+has_left m = nat_lt m.begun (length m.calls)
+
+-- between two calls: the end where no call is left, a single page goes home, or the next call is polled for
+abbrev pub rest_task : Bool → Bool → Task
+rest_task false single = Ends
+rest_task true true = SendsSingle
+rest_task true false = Polls
+
+abbrev pub calling_task : Bool → Call → Option ℕ → Task
+calling_task true call h = Births call
+calling_task false call h = Calls call h
+
+-- what is done next by a caller that stands so, with this header read
+abbrev pub task_at : Bool → Bool → Option ℕ → Position → Task
+task_at left single h positions.Out = Out
+task_at left single h positions.Entering = Enters
+task_at left single h positions.Between = rest_task left single
+task_at left single h (positions.Calling call) = calling_task (makes_object call) call h
+task_at left single h (positions.Writing r w n) = Writes r w
+task_at left single h positions.Leaving = Leaves
+task_at left single h _ = Ended
+
+-- what the mutator m does next where its view is v
+abbrev pub task_by : Mutating → View → Task
+task_by m v = task_at (has_left m) (has_single m.alloc.hands) v.header v.position
+
+-- behind a poll for a call the caller goes out where it found no run phase, and polls again where the gate let no call pass
+abbrev pub polled_task : Bool → ℕ → Mutating → View → Task
+polled_task passed w m v = cond (is_run (phase_of w).code) (cond passed (task_by m v) Polls) Leaves
+
+-- the task behind a step that found the word w, where the mutator is m and its view v behind it; a caller that is out goes in
+-- where it found a run phase
+abbrev pub task_behind : Task → Bool → ℕ → Mutating → View → Task
+task_behind Out passed w m v = cond (is_run (phase_of w).code) GoesIn Out
+task_behind Enters passed w m v = polled_task passed w m v
+task_behind Polls passed w m v = polled_task passed w m v
+task_behind _ passed w m v = task_by m v
+
+-- a caller that is out waits in these phases
+abbrev pub is_wait : Code → Bool
+is_wait codes.StopA = true
+is_wait codes.StopB = true
+is_wait codes.Prep = true
+is_wait _ = false
+
+abbrev pub idle_at : ℕ → Bool → Turn
+idle_at w true = Idle Phase w
+idle_at w false = Moved
+
+-- a poll is idle where the gate let no call pass in a run phase
+abbrev pub polled_answer : Bool → ℕ → Turn
+polled_answer passed w = cond passed Moved (idle_at w (is_run (phase_of w).code))
+
+-- what the turn of such a task answers: it is idle where a caller that is out waits, and where its poll is
+abbrev pub answer_behind : Task → Bool → ℕ → Turn
+answer_behind Out passed w = idle_at w (is_wait (phase_of w).code)
+answer_behind Enters passed w = polled_answer passed w
+answer_behind Polls passed w = polled_answer passed w
+answer_behind _ passed w = Moved
+
+-- the task behind a turn in which a page goes home: a single page is home where its frame was given back, and all others go on
+-- until no page is in hand
+abbrev pub task_home : Task → Stage → Task
+task_home SendsSingle Resting = Polls
+task_home task stage = task

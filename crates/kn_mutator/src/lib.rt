@@ -1,0 +1,20 @@
+//! A mutator: one thread of a script, one step of the heap a turn.
+//!
+//! A `Mutator` owns its thread's calls, allocator and log (`Mutating` in `specs/Mutating.antt`); only
+//! its own turns change them. A turn makes exactly one step of the heap, or moves one page: which one
+//! is said task by task in `specs/Tasks.antt` and `specs/Turns.antt`. Between any two turns what a
+//! mutator keeps of its view is what the view has (`Agrees` in `specs/Agree.antt`). A mutator goes in
+//! and out as the phase says; it helps with no work of the collector.
+#![tactic(auto)]
+
+mod births;
+mod calls;
+mod gate;
+mod home;
+mod mutator;
+mod polls;
+mod task;
+
+pub use gate::{Gate, OpenGate};
+pub use mutator::Mutator;
+pub use task::Task;

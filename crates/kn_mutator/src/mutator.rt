@@ -1,0 +1,317 @@
+//! The mutator, and its turns in and out.
+ghost use Rattle.std.specs.Prelude.{◌≡◌, ℕ, ◌<◌, ◌↔◌, [], Bool, IfOk, IsTrue, length, slice_index, slice_index_or};
+ghost use Rattle.std.specs.List.{AllByRecursion};
+ghost use Rattle.kn_rule.specs.Allowed.{IsBuilt};
+ghost use Rattle.kn_rule.specs.Decoding.{phase_of};
+ghost use Rattle.kn_rule.specs.Rule.{fresh};
+ghost use Rattle.kn_steps.specs.Turns.{MetUnswept, OneTurn};
+ghost use Rattle.kn_steps.specs.declared.turns.Turn.TheVariants.{Done};
+ghost use Rattle.kn_script.specs.Good.{IsGoodScript};
+ghost use Rattle.kn_script.specs.Scripts.{ground_of};
+ghost use Rattle.kn_alloc.specs.Agree.{IsSweeping};
+ghost use Rattle.kn_mutator.specs.declared.task.Task.TheVariants.{Out, GoesIn, Writes};
+ghost use Rattle.kn_mutator.specs.Mutating.{new_mutating};
+ghost use Rattle.kn_mutator.specs.Tasks;
+ghost use Rattle.kn_mutator.specs.After.{answered, assigned, referred, resting_task, said};
+ghost use Rattle.kn_mutator.specs.Agree.{Agrees, HasEnded};
+ghost use Rattle.kn_mutator.specs.Turns.{Goes, Turned};
+
+use crate::gate::Gate;
+use crate::task::Task;
+use kn_alloc::ThreadAlloc;
+use kn_base::{Caller, Place, Sizes};
+use kn_graph::{Call, Entry, Event, Reply};
+use kn_layout::Layout;
+use kn_page::Page;
+use kn_rule::Kind;
+use kn_script::Script;
+use kn_steps::{Steps, Turn};
+use kn_view::{reply_to_reference, runs};
+use std::alloc::{AllocError, Global};
+use std::marker::Model;
+
+/// One thread of a script.
+#[derive(Drop)]
+pub struct Mutator {
+    pub(crate) sizes: Sizes,
+    pub(crate) layouts: Vec<Layout>,
+    pub(crate) by: u8,
+    calls: Vec<Call>,
+    pub(crate) begun: u32,
+    pub(crate) epoch: u32,
+    pub(crate) locals: [u32; 16],
+    pub(crate) task: Task,
+    pub(crate) allocator: ThreadAlloc,
+    log: Vec<Entry>,
+}
+
+impl Model for Mutator {
+    ghost use Rattle.std.specs.Prelude.{◌≤◌, length, vec_capacity};
+    ghost use Rattle.kn_base.specs.declared.limits.TheConstants.{MOST_CALLS};
+    ghost use Rattle.kn_graph.specs.Ground.{IsGoodGround};
+    ghost use Rattle.kn_view.specs.Parts.{ground_of};
+    ghost use Rattle.kn_mutator.specs.Mutating.{Mutating};
+
+    ghost Value = { Mutating };
+
+    ghost view = { λ m. record {
+      heap = ground_of m.sizes m.layouts.items;
+      by = m.by;
+      calls = m.calls.items;
+      begun = m.begun;
+      epoch = m.epoch;
+      locals = m.locals;
+      task = m.task;
+      alloc = m.allocator;
+      log = m.log.items;
+    } };
+
+    ghost invariant = { λ m. IsGoodGround (ground_of m.sizes m.layouts.items) × (length m.calls.items ≤ MOST_CALLS)
+        × (length m.calls.items ≤ vec_capacity m.log) };
+}
+
+impl Mutator {
+    /// The mutator of thread `i`, which has made no turn. All memory is taken here; an error is want of
+    /// it.
+    pub fn open(alloc: Global, script: &Script, i: u8) -> Result<Mutator, AllocError>
+        requires good { IsGoodScript script.now }
+        requires thread { i < length script.now.threads }
+        requires built { AllByRecursion IsBuilt (slice_index_or script.now.threads i []) }
+        ensures new { IfOk result (λ m. m ≡ new_mutating (ground_of script.now) i (slice_index_or script.now.threads i [])) }
+        ensures agrees { IfOk result (λ m. (here : ℕ → Bool) →
+            Agrees m (record { heap = ground_of script.now; by = i; view = fresh (ground_of script.now) }) here) }
+    {
+        let calls = Vec::from_slice(alloc, script.threads[usize::from(i)].as_slice())?;
+        let log = Vec::with_capacity(alloc, calls.len())?;
+        Ok(Mutator {
+            sizes: script.sizes,
+            layouts: copied(alloc, &script.layouts)?,
+            by: i,
+            task: first_task(&calls),
+            calls,
+            begun: 0,
+            epoch: 0,
+            locals: [0; 16],
+            allocator: ThreadAlloc::open(alloc, &script.sizes, Caller(i))?,
+            log,
+        })
+    }
+
+    /// Makes the next step of the task, or moves a page (`Turned` in `specs/Turns.antt`). It must not have
+    /// ended. `Idle` where it is out and the phase is one in which callers wait (`is_wait`), or where the
+    /// gate let no call pass; `Done` in the turn that stores that it has ended. Behind a turn that met an
+    /// unswept frame and left its allocator at a sweep it makes no more.
+    #[inline(always)]
+    pub fn turn<T: Steps<Page>, G: Gate>(&mut self, steps: &mut T, gate: &G) -> Turn
+        requires agrees { Agrees self.old (T.stand steps.old) (T.here steps.old) }
+        requires going { ¬ HasEnded self.old.task }
+        ensures turned { Turned T.stand T.here T.did T.moved (G.is_open gate.now) self.old steps.old steps.new self.new result }
+        ensures agrees { (¬ IsSweeping self.new.alloc.stage) → Agrees self.new (T.stand steps.new) (T.here steps.new) }
+        ensures one { OneTurn T.stand T.here T.did T.moved steps.old steps.new }
+        ensures unswept { IsSweeping self.new.alloc.stage → MetUnswept T.stand T.here T.did T.moved steps.old steps.new }
+        ensures done { (result ≡ Done) ↔ HasEnded self.new.task }
+    {
+        self.goes_on(steps, gate)
+    }
+
+    fn goes_on<T: Steps<Page>, G: Gate>(&mut self, steps: &mut T, gate: &G) -> Turn
+        requires agrees { Agrees self.old (T.stand steps.old) (T.here steps.old) }
+        requires going { ¬ HasEnded self.old.task }
+        ensures turned { Turned T.stand T.here T.did T.moved (G.is_open gate.now) self.old steps.old steps.new self.new result }
+        ensures agrees { (¬ IsSweeping self.new.alloc.stage) → Agrees self.new (T.stand steps.new) (T.here steps.new) }
+        ensures unswept { IsSweeping self.new.alloc.stage → MetUnswept T.stand T.here T.did T.moved steps.old steps.new }
+    {
+        match self.task {
+            Task::Out => self.looks(steps),
+            Task::GoesIn => self.goes_in(steps),
+            Task::Enters => self.polls(steps, gate),
+            Task::Polls => self.polls(steps, gate),
+            Task::Calls(call, header) => self.calls_at(steps, call, header),
+            Task::Births(call) => self.gets_cell(steps, call),
+            Task::Writes(local, value) => self.writes(steps, local, value),
+            Task::SendsSingle => self.sends_single(steps),
+            Task::Leaves => self.leaves(steps),
+            Task::Ends => self.ends(steps),
+            Task::Ended => unreachable!(),
+        }
+    }
+
+    /// Whether it has ended.
+    pub fn has_ended(&self) -> bool
+        ensures { IsTrue result ↔ HasEnded self.now.task }
+    {
+        matches!(self.task, Task::Ended)
+    }
+
+    /// The entries of its calls that were answered, in order.
+    pub fn log(&self) -> &[Entry]
+        ensures { result.now ≡ self.now.log }
+    {
+        self.log.as_slice()
+    }
+
+    /// The log.
+    pub fn into_log(self) -> Vec<Entry>
+        ensures { result.items ≡ self.log }
+    {
+        self.log
+    }
+
+    // Out: the phase says whether it goes in.
+    fn looks<T: Steps<Page>>(&mut self, steps: &mut T) -> Turn
+        requires agrees { Agrees self.old (T.stand steps.old) (T.here steps.old) }
+        requires task { self.old.task ≡ Out }
+        ensures { Goes T.stand T.here T.did T.moved self.old steps.old steps.new self.new result }
+    {
+        let word = steps.poll(None);
+        if runs(word) {
+            self.goes_to(Task::GoesIn);
+            Turn::Moved
+        } else {
+            idle_at(word, waits(word))
+        }
+    }
+
+    fn goes_in<T: Steps<Page>>(&mut self, steps: &mut T) -> Turn
+        requires agrees { Agrees self.old (T.stand steps.old) (T.here steps.old) }
+        requires task { self.old.task ≡ GoesIn }
+        ensures { Goes T.stand T.here T.did T.moved self.old steps.old steps.new self.new result }
+    {
+        steps.store(Place::State(self.by), 1, Kind::K2);
+        self.goes_to(Task::Enters);
+        Turn::Moved
+    }
+
+    fn writes<T: Steps<Page>>(&mut self, steps: &mut T, local: u8, value: u32) -> Turn
+        requires agrees { Agrees self.old (T.stand steps.old) (T.here steps.old) }
+        requires task { self.old.task ≡ Writes local value }
+        ensures { Goes T.stand T.here T.did T.moved self.old steps.old steps.new self.new result }
+    {
+        steps.store(Place::Local(self.by, local), u64::from(value), Kind::K3);
+        self.rests();
+        Turn::Moved
+    }
+
+    pub(crate) fn goes_to(&mut self, task: Task)
+        ensures { self.new ≡ record self.old { task = task } }
+    {
+        self.task = task;
+    }
+
+    // The call of a number.
+    pub(crate) fn call_of(&self, number: u32) -> Option<Call>
+        ensures { result ≡ Rattle.std.specs.Prelude.slice_get self.now.calls number }
+    {
+        self.calls.get(number as usize).copied()
+    }
+
+    pub(crate) fn local(&self, r: u8) -> u32
+        requires { r < 16 }
+        ensures { result ≡ slice_index self.now.locals r }
+    {
+        self.locals[usize::from(r)]
+    }
+
+    // What is done between two calls.
+    pub(crate) fn rests(&mut self)
+        ensures { self.new ≡ record self.old { task = resting_task self.old } }
+    {
+        self.task = if self.begun as usize >= self.calls.len() {
+            Task::Ends
+        } else if self.allocator.owns_single() {
+            Task::SendsSingle
+        } else {
+            Task::Polls
+        };
+    }
+
+    // A call is answered.
+    pub(crate) fn says(&mut self, call: Call, reply: Reply, address: u32)
+        requires { length self.old.log < length self.old.calls }
+        ensures { self.new ≡ record self.old { log = said self.old call reply address } }
+    {
+        let entry = Entry {
+            by: Caller(self.by),
+            epoch: self.epoch,
+            what: Event::Call(call, reply, address),
+        };
+        if self.log.push(entry).is_err() {
+            unreachable!();
+        }
+    }
+
+    // A call is answered, and nothing is due of it.
+    pub(crate) fn answers(&mut self, call: Call, reply: Reply, address: u32)
+        requires { length self.old.log < length self.old.calls }
+        ensures { self.new ≡ answered self.old call reply address }
+    {
+        self.says(call, reply, address);
+        self.rests();
+    }
+
+    // A local is set, and the call is answered.
+    pub(crate) fn assigns(&mut self, call: Call, r: u8, value: u32)
+        requires room { length self.old.log < length self.old.calls }
+        requires local { r < 16 }
+        ensures { self.new ≡ assigned self.old call r value }
+    {
+        self.locals[usize::from(r)] = value;
+        self.answers(call, Reply::Ok, 0);
+    }
+
+    // A reference was read into a local, whose store is due.
+    pub(crate) fn refers(&mut self, call: Call, r: u8, address: u32)
+        requires room { length self.old.log < length self.old.calls }
+        requires local { r < 16 }
+        ensures { self.new ≡ referred self.old call r address }
+    {
+        self.locals[usize::from(r)] = address;
+        self.says(call, reply_to_reference(address), 0);
+        self.task = Task::Writes(r, address);
+    }
+}
+
+// A thread without calls ends at once.
+fn first_task(calls: &[Call]) -> Task
+    ensures { result ≡ Rattle.kn_mutator.specs.Mutating.first_task calls.now }
+{
+    if calls.is_empty() {
+        Task::Ends
+    } else {
+        Task::Out
+    }
+}
+
+// Whether a caller that is out waits in the phase of a word.
+fn waits(word: u64) -> bool
+    ensures { result ≡ Tasks.is_wait (phase_of word).code }
+{
+    let code = word % 8;
+    if code == 1 {
+        true
+    } else if code == 4 {
+        true
+    } else {
+        code == 5
+    }
+}
+
+fn idle_at(word: u64, idle: bool) -> Turn
+    ensures { result ≡ Tasks.idle_at word idle }
+{
+    if idle {
+        Turn::Idle(Place::Phase, word)
+    } else {
+        Turn::Moved
+    }
+}
+
+fn copied(alloc: Global, layouts: &[Layout]) -> Result<Vec<Layout>, AllocError>
+    ensures { IfOk result (λ copies. copies.items ≡ layouts.now) }
+{
+    let mut copies = Vec::with_capacity(alloc, layouts.len())?;
+    for layout in layouts {
+        copies.push(layout.copy(alloc)?)?;
+    }
+    Ok(copies)
+}

@@ -1,0 +1,168 @@
+-- What the last turn of a run leaves.
+use Rattle.std.proofs.Common.{◌≡◌, ℕ, zero, suc, ◌+◌, ◌-◌, ◌*◌, ◌^◌, ◌<◌, ◌≤◌, ◌⊎◌, inl, inr, false}
+use Rattle.std.proofs.Common.{List, [], ◌∷◌, ◌++◌, length, map, take, drop}
+use Rattle.std.proofs.Common.{Some, get_or, slice_get, sum_by, refl, sym, ap, ◌∙◌, subst, arith, length-append}
+use Rattle.std.specs.Option.{option_map}
+use Rattle.std.specs.Prelude.{All}
+use Rattle.std.proofs.lemmas.List.{get_or_past, get_or_append_left, get_or-append_right, take-append-drop}
+use lib.ListN.{length-map}
+use Rattle.std.proofs.lemmas.List.Elements.{All-from_get_or}
+use Rattle.std.proofs.lemmas.List.Sums.{get_or-le-sum_by, sum_by-le}
+use Rattle.std.proofs.lemmas.Option.{slice_get_within, slice_get_cases, slice_get-map, get_or_from_slice_get}
+use Rattle.kn_graph.specs.declared.calls.Call.{Call}
+use Rattle.kn_graph.specs.declared.entries.Entry.{Entry}
+use Rattle.kn_graph.specs.Ground.{Ground}
+use Rattle.kn_graph.specs.Histories.{IsLegal}
+use Rattle.kn_graph.specs.Logs.{IsComplete, IsPartial, LogsFit, calls_of, log_of}
+use Rattle.kn_rule.specs.Views.{View}
+use Rattle.kn_script.specs.Good.{IsGoodScript}
+use Rattle.kn_script.specs.Scripts.{Scripted, ground_of}
+use Rattle.kn_board.specs.World.{World, Sound, view_at}
+use Rattle.kn_mutator.specs.Mutating.{Mutating}
+use Rattle.kn_trace.specs.Traces.{Trace, ends, is_end}
+use Rattle.kn_trace.specs.Runs.{AreComplete, ArePartial, HaveEnded, IsStart, calls_at}
+use Rattle.kn_trace.specs.Between.{Holds, Stays, calls_of_all, logs_of}
+use Rattle.kn_trace.proofs.Flags.{has_ended}
+use Rattle.kn_trace.proofs.Logs.{answered, answered_all, leads, logged, no_calls}
+
+two_empty : (i : ℕ) → get_or {A = List Entry} ([] ∷ [] ∷ []) i [] ≡ []
+two_empty zero = refl
+two_empty (suc zero) = refl
+two_empty (suc (suc i)) = refl
+
+module _ (s : Scripted) (good : IsGoodScript s) (start last : Trace) (is_start : IsStart s start) (stays : Stays start last)
+    (sound : Sound last.board) (h : Holds last) where
+  ground_is : last.board.heap ≡ ground_of s
+  ground_is = stays.heap ∙ ap (λ (w : World). w.heap) is_start.board
+
+  threads_are : last.board.heap.sizes.threads ≡ s.sizes.threads
+  threads_are = ap (λ (z : Ground). z.sizes.threads) ground_is
+
+  count : length last.mutators ≡ length s.threads
+  count = h.count ∙ (threads_are ∙ sym good.each_thread)
+
+  its_calls : (c : ℕ) (m : Mutating) → slice_get last.mutators c ≡ Some m → m.calls ≡ calls_at s.threads c
+  its_calls c m is =
+      let near = slice_get_within last.mutators c m is in
+      let calls = λ (n : Mutating). n.calls in
+      sym (get_or_from_slice_get (calls_of_all last.mutators) c m.calls [] (slice_get-map calls last.mutators c ∙ ap (option_map calls) is))
+      ∙ (ap (λ (x : List (List Call)). get_or x c []) stays.calls
+      ∙ get_or_from_slice_get (calls_of_all start.mutators) c (calls_at s.threads c) []
+      (slice_get-map calls start.mutators c ∙ ap (option_map calls) (is_start.mutators c (let n = count in omega arith))))
+
+  log_is : (c : ℕ) (m : Mutating) → slice_get last.mutators c ≡ Some m → log_of c last.board.history ≡ m.log
+  log_is c m is =
+      let near = slice_get_within last.mutators c m is in
+      let n = h.count in
+      logged last.board sound c (omega arith) ∙ (h.agree c m is).knows.log
+
+  -- the callers that are no threads say nothing
+  silent : (c : ℕ) → length last.mutators ≤ c → c < s.sizes.threads + 2 → log_of c last.board.history ≡ []
+  silent c from to =
+      let n = h.count in
+      let e = threads_are in
+      logged last.board sound c (omega arith) ∙ ap (λ (v : View). v.log) (h.at_rest c (omega arith) (omega arith))
+
+  -- the mutator of a thread, or none
+  abbrev Cases : ℕ → Type 0
+  Cases c = ((m : Mutating) × (slice_get last.mutators c ≡ Some m)) ⊎ (length last.mutators ≤ c)
+
+  cases : (c : ℕ) → Cases c
+  cases c = elim (slice_get_cases last.mutators c).1 [ inl there ↦ inl (there.0, there.2) | inr past ↦ inr past.0 ]
+
+  none_past : (c : ℕ) → length last.mutators ≤ c → calls_of (log_of c last.board.history) ≡ []
+  none_past c past =
+      let n = h.count in
+      let l = leads last.board sound in
+      no_calls last.board.heap last.board.history _ l.0 c (omega arith) l.1
+
+  pub legal : IsLegal (ground_of s) last.board.history
+  legal = subst (λ (z : Ground). IsLegal z last.board.history) ground_is (leads last.board sound)
+
+  -- each thread's log answers the first of its calls
+  first_calls : (log calls : List Call) (n : ℕ) → log ≡ take n calls → (rest : List Call) × (log ++ rest ≡ calls)
+  first_calls log calls n is = (drop n calls, ap (λ (x : List Call). x ++ drop n calls) is ∙ take-append-drop n calls)
+
+  partial_at : (c : ℕ) → Cases c → IsPartial (log_of c last.board.history) (calls_at s.threads c)
+  partial_at c (inl there) =
+      let m = there.0 in
+      let answers = answered m.task m (view_at last.board c) (h.agree c m there.1).at in
+      first_calls (calls_of (log_of c last.board.history)) (calls_at s.threads c) answers.0
+      (ap calls_of (log_is c m there.1) ∙ (answers.1.calls ∙ ap (take answers.0) (its_calls c m there.1)))
+  partial_at c (inr past) = (calls_at s.threads c, ap (λ (x : List Call). x ++ calls_at s.threads c) (none_past c past))
+
+  pub partial : ArePartial s last.board.history
+  partial c = partial_at c (cases c)
+
+  -- where all have ended, each log is complete
+  complete_at : HaveEnded last.mutators → (c : ℕ) → Cases c → IsComplete (log_of c last.board.history) (calls_at s.threads c)
+  complete_at end c (inl there) =
+      let m = there.0 in
+      let near = slice_get_within last.mutators c m there.1 in
+      let flag = sym (get_or_from_slice_get (ends last.mutators) c (is_end m.task) false
+      (slice_get-map (λ (n : Mutating). is_end n.task) last.mutators c ∙ ap (option_map (λ (n : Mutating). is_end n.task)) there.1))
+      ∙ end c near in
+      ap calls_of (log_is c m there.1)
+      ∙ (answered_all m.task m (view_at last.board c) (has_ended m.task flag) (h.agree c m there.1).at ∙ its_calls c m there.1)
+  complete_at end c (inr past) = none_past c past ∙ sym (get_or_past s.threads c [] (let n = count in omega arith))
+
+  pub complete : HaveEnded last.mutators → AreComplete s last.board.history
+  complete end c = complete_at end c (cases c)
+
+  -- the logs fit the history
+  log_at : (c : ℕ) → c < s.sizes.threads + 2 → Cases c → get_or (logs_of last.mutators) c [] ≡ log_of c last.board.history
+  log_at c to (inl there) =
+      let m = there.0 in
+      let log = λ (n : Mutating). n.log in
+      let near = slice_get_within last.mutators c m there.1 in
+      let same : length (map log last.mutators) ≡ length last.mutators = length-map last.mutators log in
+      get_or_append_left (map log last.mutators) ([] ∷ [] ∷ []) [] c (omega arith)
+      ∙ (get_or_from_slice_get (map log last.mutators) c m.log [] (slice_get-map log last.mutators c ∙ ap (option_map log) there.1)
+      ∙ sym (log_is c m there.1))
+  log_at c to (inr past) =
+      let log = λ (n : Mutating). n.log in
+      get_or-append_right (map log last.mutators) ([] ∷ [] ∷ []) (length last.mutators) c [] (length-map last.mutators log) past
+      ∙ (two_empty (c - length last.mutators) ∙ sym (silent c past to))
+
+  pub fit : LogsFit (s.sizes.threads + 2) (logs_of last.mutators) last.board.history
+  fit =
+      let log = λ (n : Mutating). n.log in
+      record {
+        count = length-append (map log last.mutators) ([] ∷ [] ∷ []) ∙ ap (λ n. n + 2) (length-map last.mutators log ∙ (h.count ∙ threads_are));
+        each = λ c near. log_at c near (cases c);
+      }
+
+  -- no log is longer than there may be calls
+  short_at : (c : ℕ) → c < s.sizes.threads + 2 → Cases c → length (log_of c last.board.history) ≤ 16384
+  short_at c to (inl there) =
+      let m = there.0 in
+      let agrees = h.agree c m there.1 in
+      let answers = answered m.task m (view_at last.board c) agrees.at in
+      let near = slice_get_within last.mutators c m there.1 in
+      let n = h.count in
+      let lists = good.sizes.of_threads.lists.0 in
+      let few = good.sizes.of_threads.threads.1 in
+      let e = threads_are in
+      let part = get_or-le-sum_by (λ k. k) s.sizes.calls c 0 (omega arith) in
+      let by : c ≡ m.by = agrees.alloc.caller ∙ agrees.caller in
+      let ground = sym agrees.heap ∙ ground_is in
+      let its : get_or s.sizes.calls c 0 ≡ length m.calls =
+      ap (λ k. get_or s.sizes.calls k 0) by ∙ (ap (λ (z : Ground). get_or z.sizes.calls m.by 0) (sym ground) ∙ agrees.planned.calls_are) in
+      let same = ap (λ (x : List Entry). length x) (log_is c m there.1) in
+      let all = good.sizes.of_threads.calls in
+      omega (arith, answers.1.count, answers.1.within)
+  short_at c to (inr past) = omega (arith, ap (λ (x : List Entry). length x) (silent c past to))
+
+  pub few : sum_by (λ (log : List Entry). length log) (logs_of last.mutators) < 2 ^ 32
+  few =
+      let each : All (λ (log : List Entry). length log ≤ 16384) (logs_of last.mutators) =
+      All-from_get_or (λ (log : List Entry). length log ≤ 16384) (logs_of last.mutators) []
+      (λ c near.
+      let to : c < s.sizes.threads + 2 = (let n = fit.count in omega arith) in
+      subst (λ (x : List Entry). length x ≤ 16384) (sym (fit.each c to)) (short_at c to (cases c))) in
+      let threads = good.sizes.of_threads.threads.1 in
+      small (length (logs_of last.mutators)) _ (let n = fit.count in omega arith)
+      (sum_by-le (λ (log : List Entry). length log) 16384 (logs_of last.mutators) each)
+    where
+      small : (a n : ℕ) → a ≤ 18 → n ≤ a * 16384 → n < 2 ^ 32
+      small a n x y = omega arith

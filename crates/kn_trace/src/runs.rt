@@ -1,0 +1,52 @@
+//! A run of a script, from its opening to its end.
+ghost use Rattle.std.specs.Prelude.{◌≡◌, ◌+◌, ◌<◌, ◌^◌, IfOk, false, length, sum_by};
+ghost use Rattle.kn_graph.specs.Histories.{IsLegal};
+ghost use Rattle.kn_graph.specs.Logs.{LogsFit};
+ghost use Rattle.kn_script.specs.Good.{IsGoodScript};
+ghost use Rattle.kn_script.specs.Scripts.{ground_of};
+ghost use Rattle.kn_trace.specs.Runs.{AreBuilt, AreComplete, ArePartial, IsRunOf};
+
+use crate::threads::Threads;
+use kn_board::Board;
+use kn_others::laws::turn_laws;
+use kn_page::{Page, open_pages};
+use kn_report::Log;
+use kn_script::{Script, state_laws};
+use std::alloc::{AllocError, Global};
+
+/// What a run leaves: the board, the log of each caller, of which the last two are empty, and
+/// whether its turns were spent with some thread not ended.
+#[derive(Drop)]
+pub struct Traced {
+    pub board: Board<Page>,
+    pub logs: Vec<Log>,
+    pub is_spent: bool,
+}
+
+/// Runs a script on a board, until each thread has ended or the turns are spent. An error is want
+/// of memory.
+pub fn trace(alloc: Global, script: &Script) -> Result<Traced, AllocError>
+    requires good { IsGoodScript script.now }
+    requires built { AreBuilt script.now.threads }
+    ensures run { IfOk result (λ traced. IsRunOf script.now traced.is_spent traced.board) }
+    ensures legal { IfOk result (λ traced. IsLegal (ground_of script.now) traced.board.history) }
+    ensures logs { IfOk result (λ traced. LogsFit (script.now.sizes.threads + 2) traced.logs.items traced.board.history) }
+    ensures complete { IfOk result (λ traced. traced.is_spent ≡ false → AreComplete script.now traced.board.history) }
+    ensures partial { IfOk result (λ traced. ArePartial script.now traced.board.history) }
+    ensures few { IfOk result (λ traced. sum_by (λ log. length log) traced.logs.items < 2 ^ 32) }
+{
+    state_laws();
+    turn_laws();
+    let pages = open_pages(alloc, &script.sizes)?;
+    let board = Board::open(alloc, &script.sizes, &script.layouts, pages)?;
+    let mut threads = Threads::open(alloc, script)?;
+    let board = threads.take_turns(board, script.turns);
+    let is_spent = threads.is_going_on();
+    let logs = threads.into_logs(alloc)?;
+    board.rule_holds();
+    Ok(Traced {
+        board,
+        logs,
+        is_spent,
+    })
+}
