@@ -5,6 +5,7 @@ use Rattle.kn_base.specs.declared.heap.Sizes.{Sizes}
 use Rattle.kn_base.specs.Sizes.{frame_count}
 use Rattle.kn_rule.specs.Views.{View, flattened, owns}
 use Rattle.kn_steps.specs.Made.{LieAs, Stand}
+use Rattle.kn_alloc.specs.declared.alloc.TheConstants.{CLASSES}
 use Rattle.kn_alloc.specs.declared.stage.Hand.{Hand}
 use Rattle.kn_alloc.specs.declared.stage.Stage.{Stage}
 use Rattle.kn_alloc.specs.declared.stage.Stage.TheVariants as stages
@@ -26,7 +27,7 @@ opens z c here good near = record {
   thread = near;
   search_sizes = refl;
   classes = refl;
-  hands = λ k hand h. absurd (none-some hand (sym (none_of 36 k) ∙ ap flattened h));
+  hands = λ k hand h. absurd (none-some hand (sym (none_of CLASSES k) ∙ ap flattened h));
   held = λ p o e. absurd (none-some o (sym (none_of (frame_count z.sizes) p) ∙ e));
   at = (refl, refl);
 }
@@ -56,7 +57,7 @@ module _ (m : Keeps) (a : Stand) (here here' : ℕ → Bool) (lies : LieAs a.vie
   at_there stages.Resting h = h
   at_there stages.TooLong h = h
   at_there stages.Returns h = record { search = h.search; hand = h.hand; had = h.had; cannot = h.cannot; may = h.may }
-  at_there (stages.Homes p word) h = record {
+  at_there (stages.Refuses p word) h = record {
     search = h.search;
     no_hand = h.no_hand;
     home = goes_there a.heap.sizes a.view a.view refl here here' lies p word h.home;
@@ -110,7 +111,7 @@ module _ (m : Keeps) (a : Stand) (here here' : ℕ → Bool) (lies : LieAs a.vie
     within = h.within;
     ends = h.ends;
   }
-  at_there (stages.Homing p word) h = (h.0, goes_there a.heap.sizes a.view a.view refl here here' lies p word h.1)
+  at_there (stages.PutsHome p word) h = (h.0, goes_there a.heap.sizes a.view a.view refl here here' lies p word h.1)
 
 pub stays_as_pages_move : StaysAsPagesMove
 stays_as_pages_move m a here here' g lies = record {
@@ -131,13 +132,13 @@ module _ (m : Keeps) (a : Stand) (v : View) (owned : v.owned ≡ a.view.owned) (
   idle_there stages.Resting idle h = (taken ∙ h.0, sweep ∙ h.1)
   idle_there stages.TooLong idle h = absurd idle
   idle_there stages.Returns idle h = absurd idle
-  idle_there (stages.Homes p word) idle h = absurd idle
+  idle_there (stages.Refuses p word) idle h = absurd idle
   idle_there stages.Searches idle h = absurd idle
   idle_there (stages.Takes p old) idle h = absurd idle
   idle_there (stages.Sweeps p) idle h = absurd idle
   idle_there (stages.Clears cell i) idle h = absurd idle
   idle_there (stages.Bears cell) idle h = absurd idle
-  idle_there (stages.Homing p word) idle h =
+  idle_there (stages.PutsHome p word) idle h =
       ((taken ∙ h.0.0, sweep ∙ h.0.1), goes_there a.heap.sizes a.view v owned here here' lies p word h.1)
 
   pub idle_agrees : IsIdle m.stage → Agrees m a here → Agrees m (record a { view = v }) here'

@@ -18,7 +18,7 @@ use Rattle.kn_rule.specs.Steps.{Found, does, logged, quietly}
 use Rattle.kn_rule.specs.Views.{Open, View}
 use Rattle.kn_steps.specs.Made.{LieAs, Made, Stand}
 use Rattle.kn_alloc.specs.declared.stage.Hand.{Hand}
-use Rattle.kn_alloc.specs.declared.stage.Stage.TheVariants.{Homing, Resting}
+use Rattle.kn_alloc.specs.declared.stage.Stage.TheVariants.{PutsHome, Resting}
 use Rattle.kn_alloc.specs.Keeps.{HasHand, Keeps, home_number}
 use Rattle.kn_alloc.specs.Homes.{IsFirstHome, home_rank}
 use Rattle.kn_alloc.specs.Agree.{Agrees, GoesHome, IsNoCall, IsQuiet, IsStaged, held_as}
@@ -29,11 +29,11 @@ use Rattle.kn_alloc.proofs.Returns.{hands_left, held_left, home_then}
 pub sent : (m : Keeps) (a : Stand) (here : ℕ → Bool) (g : Agrees m a here) → m.stage ≡ Resting → (class : ℕ) (hand : Hand) →
     HasHand m.hands class hand →
     (word : ℕ) → word ≡ home_number hand → (here' : ℕ → Bool) → LieAs a.view (upd here hand.frame true) here' →
-    Agrees (record m { hands = slice_set m.hands class None; stage = Homing hand.frame word }) a here'
+    Agrees (record m { hands = slice_set m.hands class None; stage = PutsHome hand.frame word }) a here'
 sent m a here g is class hand had word e here' lies =
     let plain : (z : Sizes) (class k p : ℕ) (o : Open) → held_as z Resting class k p o ≡ o = λ z class k p o. refl in
     let none : (p : ℕ) → IsStaged Resting p → ⊥ = λ p h. h in
-    let s' = Homing hand.frame word in
+    let s' = PutsHome hand.frame word in
     record {
       good = g.good;
       sizes = g.sizes;
@@ -64,13 +64,13 @@ module _ (a b : Stand) (here here' : ℕ → Bool) (p word : ℕ) (f : Found) (m
   pub given_view : IsNoCall a.view.position → b ≡ record a { view = record a.view { owned = slice_set a.view.owned p None } }
   given_view no_call = made.view ∙ (λ t. record a { view = logged (home_is a.view.position no_call t) })
 
-module _ (m : Keeps) (a : Stand) (here : ℕ → Bool) (g : Agrees m a here) (p word : ℕ) (is : m.stage ≡ Homing p word) where
+module _ (m : Keeps) (a : Stand) (here : ℕ → Bool) (g : Agrees m a here) (p word : ℕ) (is : m.stage ≡ PutsHome p word) where
   due : IsQuiet a.view × GoesHome a.heap.sizes a.view here p word
-  due = at_is m a here g (Homing p word) is
+  due = at_is m a here g (PutsHome p word) is
 
   pub may_give_home : MayGiveBack a.heap a.by a.view here (Frame p) (Stores word)
   unfolding due
-  may_give_home = may_give_back m a here g (Homing p word) is (λ z class k p o. refl) p word (λ q h. h) due.1 due.0.0 due.0.1
+  may_give_home = may_give_back m a here g (PutsHome p word) is (λ z class k p o. refl) p word (λ q h. h) due.1 due.0.0 due.0.1
 
   pub gave_home : (b : Stand) (here' : ℕ → Bool) (f : Found) → Made a here (does K11 (Frame p) (Stores word)) f b here' → IsNoCall a.view.position →
       Agrees (record m { stage = Resting }) b here'
@@ -86,9 +86,9 @@ module _ (m : Keeps) (a : Stand) (here : ℕ → Bool) (g : Agrees m a here) (p 
         thread = g.thread;
         search_sizes = g.search_sizes;
         classes = g.classes;
-        hands = hands_stay m a here g (Homing p word) is (λ z class k p o. refl) p word (λ q h. h) due.1 v' refl here' lies Resting
+        hands = hands_stay m a here g (PutsHome p word) is (λ z class k p o. refl) p word (λ q h. h) due.1 v' refl here' lies Resting
             (λ z class k p o. refl);
-        held = held_stays m a here g (Homing p word) is (λ z class k p o. refl) p word (λ q h. h) due.1 v' refl here' lies Resting;
+        held = held_stays m a here g (PutsHome p word) is (λ z class k p o. refl) p word (λ q h. h) due.1 v' refl here' lies Resting;
         at = due.0;
       })
 

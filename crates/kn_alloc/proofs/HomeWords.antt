@@ -16,7 +16,8 @@ use Rattle.kn_base.specs.Words.{IsFrameWord}
 use Rattle.kn_page.specs.Classes.{HasRoom}
 use Rattle.kn_rule.specs.Requests.{has_room, has_span, home_as, home_word, is_whole, least_cell}
 use Rattle.kn_alloc.specs.Keeps.{class_at}
-use Rattle.kn_alloc.proofs.Spans.{is_whole_frame, short_is, whole_is}
+use Rattle.kn_rule.proofs.WholeFrames.{not_whole, whole_is}
+use Rattle.kn_alloc.proofs.Spans.{short_is}
 
 -- a list has a span of n words exactly where some span is as long
 found_by : (n : ℕ) (s : Span) (rest : List Span) → ((leb n s.len ≡ true) × (n ≤ s.len)) ⊎ ((leb n s.len ≡ false) × (s.len < n)) →
@@ -54,9 +55,6 @@ no_room page e room =
     sym (ap (λ b. not b && has_span (least_cell page.class) page.free) (ne_eqb page.class SINGLE_CLASS room.0)) ∙ e in
     no_span (least_cell page.class) page.free h room.1
 
-not_whole : (page : FrameView) → is_whole page.frame page.free ≡ false → IsWholePage page → ⊥
-not_whole page e whole = let t = sym (ap (is_whole page.frame) whole ∙ is_whole_frame page.frame) ∙ e in absurd (cc)
-
 -- how the kind of a page's frame is told
 pub record KindTold (page : FrameView) (kind : FrameKind) : Type 0 where
   pub empty : (kind ≡ frames.Empty) ↔ IsWholePage page
@@ -70,11 +68,11 @@ module _ (page : FrameView) (kind : FrameKind) (told : KindTold page kind) (v : 
   by_room : is_whole page.frame page.free ≡ false →
       (has_room page.class page.free ≡ true) ⊎ (has_room page.class page.free ≡ false) → made kind ≡ home_word page.frame v page.free
   by_room whole (inl r) =
-      let k : kind ≡ frames.Ready = told.ready.1 (not_whole page whole, room_is page r) in
+      let k : kind ≡ frames.Ready = told.ready.1 (not_whole page.frame page.free whole, room_is page r) in
       ap made k ∙ ((λ t. record { kind = frames.Ready; class = sym same t; stamp = v.stamp; seat = 0 })
       ∙ sym ((λ t. home_as v (whole t) (has_room (same t) page.free)) ∙ ap (home_as v false) r))
   by_room whole (inr r) =
-      let k : kind ≡ frames.Used = told.used.1 (not_whole page whole, no_room page r) in
+      let k : kind ≡ frames.Used = told.used.1 (not_whole page.frame page.free whole, no_room page r) in
       ap made k ∙ ((λ t. record { kind = frames.Used; class = sym same t; stamp = v.stamp; seat = 0 })
       ∙ sym ((λ t. home_as v (whole t) (has_room (same t) page.free)) ∙ ap (home_as v false) r))
 

@@ -34,12 +34,12 @@ module _ {T : Type 0} (stand : T → Stand) (here : T → ℕ → Bool) (did : T
   pub tells_home : (stage : Stage) (reply : HomeTurn) → Went stage reply → IsNoCall (stand s).view.position → TellsHome (stand s) (stand s')
   tells_home stages.Resting Moved t no_call = still_home (stand s) (stand s') t.made.view
   tells_home stages.Resting Done t no_call = still_home (stand s) (stand s') (ap stand t.still)
-  tells_home (stages.Homing p w) Moved t no_call =
+  tells_home (stages.PutsHome p w) Moved t no_call =
       given_home (stand s) (stand s') (here s) (here s') p w t.made.found t.made.made no_call
-  tells_home (stages.Homing p w) Done t no_call = absurd t
+  tells_home (stages.PutsHome p w) Done t no_call = absurd t
   tells_home stages.TooLong reply t no_call = absurd t
   tells_home stages.Returns reply t no_call = absurd t
-  tells_home (stages.Homes p w) reply t no_call = absurd t
+  tells_home (stages.Refuses p w) reply t no_call = absurd t
   tells_home stages.Searches reply t no_call = absurd t
   tells_home (stages.Takes p w) reply t no_call = absurd t
   tells_home (stages.Sweeps p) reply t no_call = absurd t
@@ -50,12 +50,12 @@ module _ {T : Type 0} (stand : T → Stand) (here : T → ℕ → Bool) (did : T
   one_home stages.Resting Moved t e =
       inr (record { frame = t.hand.frame; page = Some (page_view t.hand.page); result = t.result; made = t.made; kept = t.kept })
   one_home stages.Resting Done t e = absurd (cc)
-  one_home (stages.Homing p w) Moved t e =
+  one_home (stages.PutsHome p w) Moved t e =
       inl (record { step = does K11 (Frame p) (Stores w); found = t.made.found; made = t.made.made; kept = t.made.kept })
-  one_home (stages.Homing p w) Done t e = absurd t
+  one_home (stages.PutsHome p w) Done t e = absurd t
   one_home stages.TooLong reply t e = absurd t
   one_home stages.Returns reply t e = absurd t
-  one_home (stages.Homes p w) reply t e = absurd t
+  one_home (stages.Refuses p w) reply t e = absurd t
   one_home stages.Searches reply t e = absurd t
   one_home (stages.Takes p w) reply t e = absurd t
   one_home (stages.Sweeps p) reply t e = absurd t
@@ -66,11 +66,11 @@ module _ {T : Type 0} (stand : T → Stand) (here : T → ℕ → Bool) (did : T
       (s' ≡ s) × (m' ≡ m) × (m'.stage ≡ stages.Resting)
   still_done stages.Resting Moved is t e = absurd (cc)
   still_done stages.Resting Done is t e = (t.still, t.after, ap (λ (k : Keeps). k.stage) t.after ∙ is)
-  still_done (stages.Homing p w) Moved is t e = absurd (cc)
-  still_done (stages.Homing p w) Done is t e = absurd t
+  still_done (stages.PutsHome p w) Moved is t e = absurd (cc)
+  still_done (stages.PutsHome p w) Done is t e = absurd t
   still_done stages.TooLong reply is t e = absurd t
   still_done stages.Returns reply is t e = absurd t
-  still_done (stages.Homes p w) reply is t e = absurd t
+  still_done (stages.Refuses p w) reply is t e = absurd t
   still_done stages.Searches reply is t e = absurd t
   still_done (stages.Takes p w) reply is t e = absurd t
   still_done (stages.Sweeps p) reply is t e = absurd t
@@ -84,11 +84,11 @@ module _ {T : Type 0} (stand : T → Stand) (here : T → ℕ → Bool) (did : T
   pub idle_then : (stage : Stage) (reply : HomeTurn) → m.stage ≡ stage → Went stage reply → IsIdle m'.stage × IsKept m m'
   idle_then stages.Resting Moved is t = subst StaysIdle (sym t.after) (tt, (refl, refl))
   idle_then stages.Resting Done is t = subst StaysIdle (sym t.after) (subst IsIdle (sym is) tt, (refl, refl))
-  idle_then (stages.Homing p w) Moved is t = subst StaysIdle (sym t.after) (tt, (refl, refl))
-  idle_then (stages.Homing p w) Done is t = absurd t
+  idle_then (stages.PutsHome p w) Moved is t = subst StaysIdle (sym t.after) (tt, (refl, refl))
+  idle_then (stages.PutsHome p w) Done is t = absurd t
   idle_then stages.TooLong reply is t = absurd t
   idle_then stages.Returns reply is t = absurd t
-  idle_then (stages.Homes p w) reply is t = absurd t
+  idle_then (stages.Refuses p w) reply is t = absurd t
   idle_then stages.Searches reply is t = absurd t
   idle_then (stages.Takes p w) reply is t = absurd t
   idle_then (stages.Sweeps p) reply is t = absurd t

@@ -18,7 +18,8 @@ use Rattle.kn_page.specs.declared.page.Page.TheVariants.{Fixed, NextFit, Single,
 use Rattle.kn_page.specs.PageViews.{page_view}
 use Rattle.kn_rule.specs.Requests.{AreFree, IsCellOf, is_whole}
 use Rattle.kn_alloc.specs.Cells.{CannotServe, TakesCell, span_given}
-use Rattle.kn_alloc.proofs.Spans.{fit_is, is_whole_frame, next_fit_is, short_is, whole_is}
+use Rattle.kn_rule.proofs.WholeFrames.{not_whole, whole_is}
+use Rattle.kn_alloc.proofs.Spans.{fit_is, next_fit_is, short_is}
 
 -- a page that is not single has no cell exactly where its free spans are too short
 pub not_single : (page : FrameView) (n : ℕ) (R : Type 0) → page.class ≢ SINGLE_CLASS → R ↔ All (λ s. s.len < n) page.free →
@@ -34,17 +35,17 @@ pub of_single : (page : FrameView) (n : ℕ) (R : Type 0) → page.class ≡ SIN
     R ↔ ((¬ IsWhollyFree page.frame page.free) ⊎ All (λ s. s.len < n) page.free) → R ↔ CannotServe page n
 of_single page n R single h = (λ r. there (h.0 r), λ c. h.1 (back c))
   where
-    not_whole : (¬ IsWhollyFree page.frame page.free) → (is_whole page.frame page.free ≡ true) ⊎ (is_whole page.frame page.free ≡ false) →
+    by_test : (¬ IsWhollyFree page.frame page.free) → (is_whole page.frame page.free ≡ true) ⊎ (is_whole page.frame page.free ≡ false) →
         is_whole page.frame page.free ≡ false
-    not_whole other (inl e) = absurd (other (whole_is page.frame page.free e))
-    not_whole other (inr e) = e
+    by_test other (inl e) = absurd (other (whole_is page.frame page.free e))
+    by_test other (inr e) = e
 
     there : (¬ IsWhollyFree page.frame page.free) ⊎ All (λ s. s.len < n) page.free → CannotServe page n
-    there (inl other) = inl (single, not_whole other (cases_Bool (is_whole page.frame page.free)))
+    there (inl other) = inl (single, by_test other (cases_Bool (is_whole page.frame page.free)))
     there (inr short) = inr ((short_is n page.free).0 short)
 
     back : CannotServe page n → (¬ IsWhollyFree page.frame page.free) ⊎ All (λ s. s.len < n) page.free
-    back (inl c) = inl (λ e. let t = sym (ap (is_whole page.frame) e ∙ is_whole_frame page.frame) ∙ c.1 in absurd (cc))
+    back (inl c) = inl (λ e. not_whole page.frame page.free c.1 e)
     back (inr e) = inr ((short_is n page.free).1 e)
 
 -- the cells of each class lie as they are taken

@@ -1,6 +1,6 @@
 -- A frame whose page has no cell for the request is given back.
-use Rattle.std.proofs.Common.{◌≡◌, ◌≢◌, ℕ, ◌-◌, ◌⊎◌, ◌↔◌, inl, inr, Bool, true, false, Option, Some, None, slice_get, slice_set}
-use Rattle.std.proofs.Common.{refl, sym, ap, ◌∙◌, subst, arith}
+use Rattle.std.proofs.Common.{◌≡◌, ◌≢◌, ℕ, ◌-◌, ◌⊎◌, ◌↔◌, inl, inr, Bool, true, false, List, Option, Some, None}
+use Rattle.std.proofs.Common.{slice_get, slice_set, refl, sym, ap, ◌∙◌, subst, arith}
 use Rattle.std.proofs.lemmas.Bool.{cases_Bool, true≢false}
 use Rattle.std.proofs.lemmas.Option.{none-some}
 use Rattle.kn_base.specs.declared.heap.Sizes.{Sizes}
@@ -20,7 +20,7 @@ use Rattle.kn_store.specs.Search.{IsOver, Search, first_of, refuse_seen, with_re
 use Rattle.kn_store.specs.Agree.{KnowsSame, TellsOver}
 use Rattle.kn_alloc.specs.declared.stage.Hand.{Hand}
 use Rattle.kn_alloc.specs.declared.stage.Stage.{Stage}
-use Rattle.kn_alloc.specs.declared.stage.Stage.TheVariants.{Homes, Resting, Searches}
+use Rattle.kn_alloc.specs.declared.stage.Stage.TheVariants.{Refuses, Resting, Searches}
 use Rattle.kn_alloc.specs.declared.stage.AllocTurn.TheVariants.{Moved, Full}
 use Rattle.kn_alloc.specs.Keeps.{HasHand, Keeps}
 use Rattle.kn_alloc.specs.Agree.{Agrees, GoesHome, InHand, IsHeld, IsStaged, IsToRefuse, held_as}
@@ -84,23 +84,35 @@ not_true : (b : Bool) → (b ≡ true → ⊥) → (b ≡ true) ⊎ (b ≡ false
 not_true b never (inl e) = absurd (never e)
 not_true b never (inr e) = e
 
-module _ (m : Keeps) (a : Stand) (here : ℕ → Bool) (g : Agrees m a here) (p word : ℕ) (is : m.stage ≡ Homes p word) where
+module _ (m : Keeps) (a : Stand) (here : ℕ → Bool) (g : Agrees m a here) (p word : ℕ) (is : m.stage ≡ Refuses p word) where
   due : IsToRefuse p word m a here
-  due = at_is m a here g (Homes p word) is
+  due = at_is m a here g (Refuses p word) is
 
   pub may_refuse : MayGiveBack a.heap a.by a.view here (Frame p) (Stores word)
   unfolding due
   may_refuse =
-      may_give_back m a here g (Homes p word) is (λ z class k p o. refl) p word (λ q h. h) due.home due.search.none_taken due.search.asks.none_swept
-
-  pub knows_due : KnowsSame m.search a.view.seen a.view.refused
-  unfolding due
-  knows_due = due.search.same
+      may_give_back m a here g (Refuses p word) is (λ z class k p o. refl) p word (λ q h. h) due.home due.search.none_taken due.search.asks.none_swept
 
   module _ (b : Stand) (here' : ℕ → Bool) (f : Found) (made : Made a here (does K11 (Frame p) (Stores word)) f b here')
-      (knows : KnowsSame (with_refused m.search p) a.view.seen (slice_set a.view.refused p true)) (tells : TellsOver (with_refused m.search p)) where
+      (search : Search) (refused : search ≡ with_refused m.search p)
+      (knows_more : (seen : List (Option ℕ)) (flags : List Bool) → KnowsSame m.search seen flags → KnowsSame search seen (slice_set flags p true))
+      (tells_over : TellsOver search) where
     abbrev q' : Search
     q' = with_refused m.search p
+
+    knows : KnowsSame q' a.view.seen (slice_set a.view.refused p true)
+    unfolding due
+    knows = subst (λ (q : Search). KnowsSame q a.view.seen (slice_set a.view.refused p true)) refused
+        (knows_more a.view.seen a.view.refused due.search.same)
+
+    tells : TellsOver q'
+    tells = subst TellsOver refused tells_over
+
+    has_ended : IsOver search → IsOver q'
+    has_ended end = subst IsOver refused end
+
+    is_going : (¬ IsOver search) → ¬ IsOver q'
+    is_going going end = going (subst IsOver (sym refused) end)
 
     keeps : (q'.class ≡ m.search.class) × (q'.by ≡ m.search.by) × (q'.epoch ≡ m.search.epoch) × (q'.sizes ≡ m.search.sizes)
     keeps = refused_keeps m.search p (slice_get m.search.seen (p - first_of m.search))
@@ -135,23 +147,25 @@ module _ (m : Keeps) (a : Stand) (here : ℕ → Bool) (g : Agrees m a here) (p 
         ∙ (λ t. record a { view = logged (full_if a.heap a.by v (Frame p) (Stores word) f (e t) call refused_view) })
 
     -- the search goes on
-    pub goes_on_refused : ¬ IsOver q' → Agrees (record m { search = q'; stage = Searches }) b here'
+    pub goes_on_refused : (n : Keeps) → n ≡ record m { search = q'; stage = Searches } → (¬ IsOver search) → Agrees n b here'
     unfolding due keeps
-    goes_on_refused going =
+    goes_on_refused n is_kept not =
+        let going = is_going not in
         let false_is : over due.search.asks.call ≡ false = not_true (over due.search.asks.call) (λ e. going (told.0 e))
         (cases_Bool (over due.search.asks.call)) in
         let view = view_by false false_is in
         let lies = subst (λ (b : Stand). LieAs b.view here here') view made.lies in
-        subst (λ (b : Stand). Agrees (record m { search = q'; stage = Searches }) b here') (sym view) (record {
+        subst (λ (n : Keeps). Agrees n b here') (sym is_kept)
+        (subst (λ (b : Stand). Agrees (record m { search = q'; stage = Searches }) b here') (sym view) (record {
           good = g.good;
           sizes = g.sizes;
           caller = g.caller;
           thread = g.thread;
           search_sizes = keeps.3 ∙ g.search_sizes;
           classes = g.classes;
-          hands = hands_stay m a here g (Homes p word) is (λ z class k p o. refl) p word (λ q h. h) due.home refused_view refl here' lies Searches
+          hands = hands_stay m a here g (Refuses p word) is (λ z class k p o. refl) p word (λ q h. h) due.home refused_view refl here' lies Searches
               (λ z class k p o. refl);
-          held = held_stays m a here g (Homes p word) is (λ z class k p o. refl) p word (λ q h. h) due.home refused_view refl here' lies Searches;
+          held = held_stays m a here g (Refuses p word) is (λ z class k p o. refl) p word (λ q h. h) due.home refused_view refl here' lies Searches;
           at = record {
             search = record {
               asks = asks_still m a Searches m.hands q' refused_view due.search.asks refl refl refl;
@@ -164,37 +178,39 @@ module _ (m : Keeps) (a : Stand) (here : ℕ → Bool) (g : Agrees m a here) (p 
             no_hand = due.no_hand;
             going = going;
           };
-        })
+        }))
 
     -- or it has ended, and the call is answered Full
-    pub ends_refused : IsOver q' → Agrees (record m { search = q'; stage = Resting }) b here'
+    pub ends_refused : (n : Keeps) → n ≡ record m { search = q'; stage = Resting } → IsOver search → Agrees n b here'
     unfolding due keeps
-    ends_refused ended =
-        let view = view_by true (told.1 ended) in
+    ends_refused n is_kept end =
+        let view = view_by true (told.1 (has_ended end)) in
         let v' = logged (full_if a.heap a.by a.view (Frame p) (Stores word) f true due.search.asks.call refused_view) in
         let lies = subst (λ (b : Stand). LieAs b.view here here') view made.lies in
-        subst (λ (b : Stand). Agrees (record m { search = q'; stage = Resting }) b here') (sym view) (record {
+        subst (λ (n : Keeps). Agrees n b here') (sym is_kept)
+        (subst (λ (b : Stand). Agrees (record m { search = q'; stage = Resting }) b here') (sym view) (record {
           good = g.good;
           sizes = g.sizes;
           caller = g.caller;
           thread = g.thread;
           search_sizes = keeps.3 ∙ g.search_sizes;
           classes = g.classes;
-          hands = hands_stay m a here g (Homes p word) is (λ z class k p o. refl) p word (λ q h. h) due.home v' refl here' lies Resting
+          hands = hands_stay m a here g (Refuses p word) is (λ z class k p o. refl) p word (λ q h. h) due.home v' refl here' lies Resting
               (λ z class k p o. refl);
-          held = held_stays m a here g (Homes p word) is (λ z class k p o. refl) p word (λ q h. h) due.home v' refl here' lies Resting;
+          held = held_stays m a here g (Refuses p word) is (λ z class k p o. refl) p word (λ q h. h) due.home v' refl here' lies Resting;
           at = (due.search.none_taken, due.search.asks.none_swept);
-        })
+        }))
 
-    pub refused_tells : ¬ IsOver q' → TellsView m.stage Moved a b
+    pub refused_tells : (¬ IsOver search) → TellsView m.stage Moved a b
     unfolding due keeps
-    refused_tells going =
+    refused_tells not =
+        let going = is_going not in
         let false_is : over due.search.asks.call ≡ false = not_true (over due.search.asks.call) (λ e. going (told.0 e))
         (cases_Bool (over due.search.asks.call)) in
         tells_on m.stage a b refused_view.owned a.view.seen refused_view.refused a.view.taken a.view.sweep (view_by false false_is)
 
-    pub ended_tells : IsOver q' → TellsView m.stage Full a b
+    pub ended_tells : IsOver search → TellsView m.stage Full a b
     unfolding due keeps
-    ended_tells ended =
+    ended_tells end =
         tells_full m.stage a b refused_view.owned a.view.seen refused_view.refused a.view.taken a.view.sweep due.search.asks.call
-        due.search.asks.is_call (view_by true (told.1 ended))
+        due.search.asks.is_call (view_by true (told.1 (has_ended end)))

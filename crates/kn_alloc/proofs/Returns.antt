@@ -22,7 +22,7 @@ use Rattle.kn_page.specs.PageViews.{page_view}
 use Rattle.kn_steps.specs.Made.{LieAs, MayMove, Stand}
 use Rattle.kn_alloc.specs.declared.stage.Hand.{Hand}
 use Rattle.kn_alloc.specs.declared.stage.Stage.{Stage}
-use Rattle.kn_alloc.specs.declared.stage.Stage.TheVariants.{Homes, Returns}
+use Rattle.kn_alloc.specs.declared.stage.Stage.TheVariants.{Refuses, Returns}
 use Rattle.kn_base.specs.Classes.{IsClassNumber}
 use Rattle.kn_alloc.specs.Cells.{AsksFor, CannotServe}
 use Rattle.kn_alloc.specs.Keeps.{HasHand, Keeps, home_number}
@@ -154,14 +154,14 @@ search_still m a s hands h = record {
 pub returned : (m : Keeps) (a : Stand) (here : ℕ → Bool) (g : Agrees m a here) → m.stage ≡ Returns → (hand : Hand) →
     HasHand m.hands m.class hand →
     (word : ℕ) → word ≡ home_number hand → (here' : ℕ → Bool) → LieAs a.view (upd here hand.frame true) here' →
-    Agrees (record m { hands = slice_set m.hands m.class None; stage = Homes hand.frame word }) a here'
+    Agrees (record m { hands = slice_set m.hands m.class None; stage = Refuses hand.frame word }) a here'
 unfolding the_hand own_page
 returned m a here g is hand had word e here' lies =
     let plain : (z : Sizes) (class k p : ℕ) (o : Open) → held_as z Returns class k p o ≡ o = λ z class k p o. refl in
     let none : (p : ℕ) → IsStaged Returns p → ⊥ = λ p h. h in
     let due = at_is m a here g Returns is in
     let same = same_hand m.hands m.class due.hand hand due.had had in
-    let s' = Homes hand.frame word in
+    let s' = Refuses hand.frame word in
     let hands' = slice_set m.hands m.class None in
     record {
       good = g.good;

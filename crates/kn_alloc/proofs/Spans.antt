@@ -1,16 +1,15 @@
--- Free spans that have a word or a length, and frames that are whole.
-use Rattle.std.proofs.Common.{◌≡◌, ℕ, ◌<◌, ◌≤◌, ◌⊎◌, ◌↔◌, inl, inr, Bool, true, false, ◌&&◌, ◌||◌, List, [], ◌∷◌}
-use Rattle.std.proofs.Common.{Option, Some, None, All, cond, eqb, refl, sym, ap, ◌∙◌, subst, arith, eq-eqb}
+-- Free spans that have a word or a length.
+use Rattle.std.proofs.Common.{◌≡◌, ℕ, ◌<◌, ◌≤◌, ◌⊎◌, ◌↔◌, inl, inr, Bool, true, false, ◌||◌, List, [], ◌∷◌}
+use Rattle.std.proofs.Common.{Option, Some, None, All, cond, refl, sym, ap, ◌∙◌, subst, arith}
 use Rattle.std.specs.List.{AllByRecursion}
 use Rattle.std.specs.Option.{option_map, option_or}
-use Rattle.std.proofs.lemmas.Bool.{eqb-true}
 use Rattle.std.proofs.lemmas.Bool.Decides.{leb_tells}
 use Rattle.std.proofs.lemmas.List.Elements.{All-from_recursion, recursion_from_All}
 use Rattle.std.proofs.lemmas.Option.{none-some, same_Some}
 use Rattle.std.proofs.Math.Dec.{leb}
 use Rattle.kn_base.specs.declared.numbers.Span.{Span}
 use Rattle.kn_base.specs.SpanLists.{Covers, first_fit, front_of, spans_from}
-use Rattle.kn_rule.specs.Requests.{AreFree, has_span, is_whole}
+use Rattle.kn_rule.specs.Requests.{AreFree, has_span}
 
 -- all spans are shorter exactly where none has as many words
 short_by : (n len : ℕ) (rest : Bool) → ((leb n len ≡ true) × (n ≤ len)) ⊎ ((leb n len ≡ false) × (len < n)) →
@@ -78,20 +77,3 @@ module _ (n : ℕ) (cell : Span) where
   pub next_fit_is : (low : ℕ) (spans : List Span) →
       Some cell ≡ option_map (front_of n) (option_or (first_fit n (spans_from low spans)) (first_fit n spans)) → (cell.len ≡ n) × AreFree spans cell
   next_fit_is low spans e = next_by low spans (first_fit n (spans_from low spans)) refl e
-
-both_true : (a b : Bool) → (a && b) ≡ true → (a ≡ true) × (b ≡ true)
-both_true true true e = (refl, refl)
-both_true true false e = absurd (cc)
-both_true false b e = absurd (cc)
-
-pub whole_is : (frame : Span) (free : List Span) → is_whole frame free ≡ true → free ≡ frame ∷ []
-whole_is frame [] e = absurd (cc)
-whole_is frame (x ∷ []) e =
-    let h = both_true (eqb x.start frame.start) (eqb x.len frame.len) e in
-    let a = eqb-true x.start frame.start h.0 in let b = eqb-true x.len frame.len h.1 in
-    λ t. record { start = a t; len = b t } ∷ []
-whole_is frame (x ∷ y ∷ rest) e = absurd (cc)
-
-pub is_whole_frame : (frame : Span) → is_whole frame (frame ∷ []) ≡ true
-is_whole_frame frame =
-    ap (λ b. b && eqb frame.len frame.len) (eq-eqb frame.start frame.start refl) ∙ eq-eqb frame.len frame.len refl

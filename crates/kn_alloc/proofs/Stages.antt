@@ -15,7 +15,7 @@ use Rattle.kn_steps.specs.Made.{LieAs, Made, Stand}
 use Rattle.kn_store.specs.Search.{Search}
 use Rattle.kn_alloc.specs.declared.stage.Stage.{Stage}
 use Rattle.kn_alloc.specs.declared.stage.Stage.TheVariants.{Resting, TooLong, Bears}
-use Rattle.kn_alloc.specs.Keeps.{Keeps}
+use Rattle.kn_alloc.specs.Keeps.{Keeps, born_mark}
 use Rattle.kn_alloc.specs.Agree.{Agrees, AtStage, IsCleared, IsHeld, IsStaged, held_as}
 use Rattle.kn_alloc.specs.declared.stage.AllocTurn.TheVariants.{Born}
 use Rattle.kn_alloc.specs.Tells.{TellsView}
@@ -59,7 +59,7 @@ birth_there n (Some b) e = (b, refl)
 
 -- the birth of a cell that is cleared
 module _ (m : Keeps) (a : Stand) (here : ℕ → Bool) (g : Agrees m a here) (cell : Span) (is : m.stage ≡ Bears cell) (w : ℕ)
-    (word : w ≡ 4 * m.epoch + 3) where
+    (word : w ≡ born_mark m.epoch) where
   clear_cell : IsCleared cell cell.len m a here
   clear_cell = at_is m a here g (Bears cell) is
 

@@ -17,6 +17,7 @@ use Rattle.kn_rule.specs.Moves.{IsPageOf}
 use Rattle.kn_rule.specs.Requests.{AreFree, InArea, IsCellOf, area_count, area_words, is_too_long}
 use Rattle.kn_rule.specs.Views.{Open, owns}
 use Rattle.kn_rule.proofs.FrameSpans.{in_heap}
+use Rattle.kn_rule.proofs.WholeFrames.{is_whole_frame}
 use Rattle.kn_page.specs.PageViews.{page_view}
 use Rattle.kn_steps.specs.Made.{Stand}
 use Rattle.kn_alloc.specs.declared.stage.Hand.{Hand}
@@ -27,7 +28,6 @@ use Rattle.kn_alloc.specs.Agree.{AtStage, InHand, MayRefuse, SearchesFor, cut_op
 use Rattle.kn_alloc.proofs.Hands.{put_in_hand}
 use Rattle.kn_alloc.proofs.Owned.{asks_still}
 use Rattle.kn_alloc.proofs.Returns.{search_still}
-use Rattle.kn_alloc.proofs.Spans.{is_whole_frame}
 
 -- a frame of the area of a class has the words of one
 len_small : (z : Sizes) (p : ℕ) → p < z.small → (frame_span z p).len ≡ z.small_words

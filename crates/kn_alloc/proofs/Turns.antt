@@ -1,5 +1,5 @@
 -- When a turn answers Full, when an object is born, what was done in it, and which stage lies behind it.
-use Rattle.std.proofs.Common.{◌≡◌, ◌≢◌, ℕ, ◌+◌, ◌*◌, ◌==◌, ◌⊎◌, ◌↔◌, inl, inr, Bool, true, false, cond}
+use Rattle.std.proofs.Common.{◌≡◌, ◌≢◌, ℕ, ◌+◌, ◌==◌, ◌⊎◌, ◌↔◌, inl, inr, Bool, true, false, cond}
 use Rattle.std.proofs.Common.{Option, None, Some, slice_set, refl, sym, ap, ◌∙◌, subst}
 use Rattle.std.proofs.lemmas.Bool.{cases_eq}
 use Rattle.kn_base.specs.Pages.{FrameView}
@@ -23,10 +23,10 @@ use Rattle.kn_alloc.specs.declared.stage.Stage.{Stage}
 use Rattle.kn_alloc.specs.declared.stage.Stage.TheVariants as stages
 use Rattle.kn_alloc.specs.declared.stage.AllocTurn.{AllocTurn}
 use Rattle.kn_alloc.specs.declared.stage.AllocTurn.TheVariants.{Moved, Born, Full}
-use Rattle.kn_alloc.specs.Keeps.{Keeps, Tries, found_stage, home_number, readied, stage_after, stage_behind, word_at}
+use Rattle.kn_alloc.specs.Keeps.{Keeps, Tries, born_mark, found_stage, home_number, readied, stage_after, stage_behind, word_at}
 use Rattle.kn_alloc.specs.Agree.{IsSweeping}
 use Rattle.kn_alloc.specs.Tells.{IsBehind, IsKept}
-use Rattle.kn_alloc.specs.Turns.{EndsOrGoesOn, IsBornAt, IsFullAt, IsRefused, Seeks, TurnedAt, answer_of}
+use Rattle.kn_alloc.specs.Turns.{EndsOrGoesOn, IsBornAt, IsFullAt, IsRefused, Seeks, Turned, TurnedAt, answer_of}
 
 never_full : (reply : AllocTurn) → reply ≡ Moved → (reply ≡ Full) ↔ ⊥
 never_full reply is = (λ e. let h = sym is ∙ e in absurd (cc), λ h. absurd h)
@@ -139,12 +139,18 @@ turn_found q q' d w p old (inr c) = claim_found q q' d w p old c (cases_eq w c.b
 
 module _ {T : Type 0} (stand : T → Stand) (here : T → ℕ → Bool) (did : T → Step → WasFound → T → Type 0)
     (moved : T → ℕ → Option FrameView → Option FrameView → T → Type 0) (m m' : Keeps) (s s' : T) (reply : AllocTurn) where
+  -- a turn at the stage of what was kept
+  pub turned_at : {x : Keeps} {stage : Stage} → x ≡ m → x.stage ≡ stage → TurnedAt stand here did moved stage m s s' m' reply →
+      Turned stand here did moved m s s' m' reply
+  turned_at is at t =
+      subst (λ stage. TurnedAt stand here did moved stage m s s' m' reply) (sym (ap (λ (k : Keeps). k.stage) (sym is) ∙ at)) t
+
   pub born_told : (stage : Stage) (address : ℕ) → TurnedAt stand here did moved stage m s s' m' reply → (reply ≡ Born address) ↔ IsBornAt
       stage address
   born_told stages.Resting address t = absurd t
   born_told stages.TooLong address t = full_denied reply address t.answer
   born_told stages.Returns address t = never_born reply address t.answer
-  born_told (stages.Homes p w) address t = refused_born (with_refused m.search p) t.stage reply address t.behind
+  born_told (stages.Refuses p w) address t = refused_born (with_refused m.search p) t.stage reply address t.behind
   born_told stages.Searches address t = seeks_born t.look reply address t.answer
   born_told (stages.Takes p w) address t = never_born reply address t.answer
   born_told (stages.Sweeps p) address t = absurd t
@@ -154,7 +160,7 @@ module _ {T : Type 0} (stand : T → Stand) (here : T → ℕ → Bool) (did : T
         λ e. let h = sym is ∙ e in cc,
         λ e. is ∙ ap Born e,
       )
-  born_told (stages.Homing p w) address t = absurd t
+  born_told (stages.PutsHome p w) address t = absurd t
 
   seeks_full : Seeks stand here did moved m s s' m' reply → (reply ≡ Full) ↔ IsOver m'.search
   seeks_full t =
@@ -163,8 +169,8 @@ module _ {T : Type 0} (stand : T → Stand) (here : T → ℕ → Bool) (did : T
       let e = ap (λ (k : Keeps). k.search) t.after in
       (λ f. subst IsOver (sym e) (b.0 (a.0 f)), λ o. a.1 (b.1 (subst IsOver e o)))
 
-  homes_full : (p w : ℕ) → IsRefused stand here did moved p w m s s' m' reply → (reply ≡ Full) ↔ IsOver m'.search
-  homes_full p w t =
+  refuses_full : (p w : ℕ) → IsRefused stand here did moved p w m s s' m' reply → (reply ≡ Full) ↔ IsOver m'.search
+  refuses_full p w t =
       let a = refused_full (with_refused m.search p) t.stage reply t.behind in
       let e = ap (λ (k : Keeps). k.search) t.after in
       (λ f. subst IsOver (sym e) (a.0 f), λ o. a.1 (subst IsOver e o))
@@ -173,13 +179,13 @@ module _ {T : Type 0} (stand : T → Stand) (here : T → ℕ → Bool) (did : T
   full_told stages.Resting t = absurd t
   full_told stages.TooLong t = (λ _. tt, λ _. t.answer)
   full_told stages.Returns t = never_full reply t.answer
-  full_told (stages.Homes p w) t = homes_full p w t
+  full_told (stages.Refuses p w) t = refuses_full p w t
   full_told stages.Searches t = seeks_full t
   full_told (stages.Takes p w) t = never_full reply t.answer
   full_told (stages.Sweeps p) t = absurd t
   full_told (stages.Clears cell i) t = never_full reply t.answer
   full_told (stages.Bears cell) t = (λ e. let h = sym t.answer ∙ e in absurd (cc), λ h. absurd h)
-  full_told (stages.Homing p w) t = absurd t
+  full_told (stages.PutsHome p w) t = absurd t
 
   -- outside a request that is too long one step was made, or one page was moved
   pub one_told : (stage : Stage) → TurnedAt stand here did moved stage m s s' m' reply → stage ≢ stages.TooLong → OneTurn stand here did moved s s'
@@ -187,7 +193,7 @@ module _ {T : Type 0} (stand : T → Stand) (here : T → ℕ → Bool) (did : T
   one_told stages.TooLong t ne = absurd (ne refl)
   one_told stages.Returns t ne =
       inr (record { frame = t.hand.frame; page = Some (page_view t.hand.page); result = t.result; made = t.made; kept = t.kept })
-  one_told (stages.Homes p w) t ne = inl (record { step = does K11 (Frame p) (Stores w); found = t.made.found; made = t.made.made; kept = t.made.kept })
+  one_told (stages.Refuses p w) t ne = inl (record { step = does K11 (Frame p) (Stores w); found = t.made.found; made = t.made.made; kept = t.made.kept })
   one_told stages.Searches t ne =
       inl (record { step = t.turned.step; found = t.turned.found; made = t.turned.made; kept = t.turned.kept })
   one_told (stages.Takes p w) t ne = inr (record { frame = p; page = None; result = Some t.page; made = t.made; kept = t.kept })
@@ -199,20 +205,20 @@ module _ {T : Type 0} (stand : T → Stand) (here : T → ℕ → Bool) (did : T
     kept = t.made.kept;
   })
   one_told (stages.Bears cell) t ne = inl (record {
-    step = does K8 (Side cell.start) (Stores (4 * m.epoch + 3));
+    step = does K8 (Side cell.start) (Stores (born_mark m.epoch));
     found = t.made.found;
     made = t.made.made;
     kept = t.made.kept;
   })
-  one_told (stages.Homing p w) t ne = absurd t
+  one_told (stages.PutsHome p w) t ne = absurd t
 
   pub behind_told : (stage : Stage) → TurnedAt stand here did moved stage m s s' m' reply → IsBehind reply m'.stage
   behind_told stages.Resting t = absurd t
   behind_told stages.TooLong t = behind_by reply Full m' (record m { stage = stages.Resting }) t.answer t.after refl
   behind_told stages.Returns t =
-      let n : Keeps = record m { hands = slice_set m.hands m.class None; stage = stages.Homes t.hand.frame (home_number t.hand) } in
+      let n : Keeps = record m { hands = slice_set m.hands m.class None; stage = stages.Refuses t.hand.frame (home_number t.hand) } in
       behind_by reply Moved m' n t.answer t.after (inl tt)
-  behind_told (stages.Homes p w) t =
+  behind_told (stages.Refuses p w) t =
       subst (λ (k : Keeps). IsBehind reply k.stage) (sym t.after) (refused_behind (with_refused m.search p) t.stage reply t.behind)
   behind_told stages.Searches t =
       behind_by reply (answer_of t.look) m' (record m { search = t.search; stage = stage_behind t.look }) t.answer t.after (look_behind t.look)
@@ -223,19 +229,19 @@ module _ {T : Type 0} (stand : T → Stand) (here : T → ℕ → Bool) (did : T
   behind_told (stages.Clears cell i) t =
       behind_by reply Moved m' (record m { stage = stage_after cell i }) t.answer t.after (after_behind cell i (i + 1 == cell.len))
   behind_told (stages.Bears cell) t = behind_by reply (Born cell.start) m' (record m { stage = stages.Resting }) t.answer t.after refl
-  behind_told (stages.Homing p w) t = absurd t
+  behind_told (stages.PutsHome p w) t = absurd t
 
   pub kept_told : (stage : Stage) → TurnedAt stand here did moved stage m s s' m' reply → IsKept m m'
   kept_told stages.Resting t = absurd t
   kept_told stages.TooLong t = subst (IsKept m) (sym t.after) (refl, refl)
   kept_told stages.Returns t = subst (IsKept m) (sym t.after) (refl, refl)
-  kept_told (stages.Homes p w) t = subst (IsKept m) (sym t.after) (refl, refl)
+  kept_told (stages.Refuses p w) t = subst (IsKept m) (sym t.after) (refl, refl)
   kept_told stages.Searches t = subst (IsKept m) (sym t.after) (refl, refl)
   kept_told (stages.Takes p w) t = subst (IsKept m) (sym t.after) (refl, refl)
   kept_told (stages.Sweeps p) t = absurd t
   kept_told (stages.Clears cell i) t = subst (IsKept m) (sym t.after) (refl, refl)
   kept_told (stages.Bears cell) t = subst (IsKept m) (sym t.after) (refl, refl)
-  kept_told (stages.Homing p w) t = absurd t
+  kept_told (stages.PutsHome p w) t = absurd t
 
   met : (q q' : Search) (look : Look) → SearchTurned stand here did q s s' q' look → IsSweeping (stage_behind look) →
       MetUnswept stand here did moved s s'
@@ -254,7 +260,7 @@ module _ {T : Type 0} (stand : T → Stand) (here : T → ℕ → Bool) (did : T
   unswept_told stages.Resting t w = absurd t
   unswept_told stages.TooLong t w = absurd (subst (λ (k : Keeps). IsSweeping k.stage) t.after w)
   unswept_told stages.Returns t w = absurd (subst (λ (k : Keeps). IsSweeping k.stage) t.after w)
-  unswept_told (stages.Homes p w) t sweeping =
+  unswept_told (stages.Refuses p w) t sweeping =
       absurd (refused_quiet (with_refused m.search p) t.stage reply t.behind (subst (λ (k : Keeps). IsSweeping k.stage) t.after sweeping))
   unswept_told stages.Searches t w = met m.search t.search t.look t.turned (subst (λ (k : Keeps). IsSweeping k.stage) t.after w)
   unswept_told (stages.Takes p old) t w =
@@ -264,4 +270,4 @@ module _ {T : Type 0} (stand : T → Stand) (here : T → ℕ → Bool) (did : T
   unswept_told (stages.Clears cell i) t w =
       absurd (after_quiet cell i (i + 1 == cell.len) (subst (λ (k : Keeps). IsSweeping k.stage) t.after w))
   unswept_told (stages.Bears cell) t w = absurd (subst (λ (k : Keeps). IsSweeping k.stage) t.after w)
-  unswept_told (stages.Homing p w) t sweeping = absurd t
+  unswept_told (stages.PutsHome p w) t sweeping = absurd t

@@ -26,9 +26,10 @@ use Rattle.kn_steps.specs.Made.{Stand}
 use Rattle.kn_page.specs.PageViews.{page_view}
 use Rattle.kn_store.specs.Search.{Search, IsOver, count_of, first_of}
 use Rattle.kn_store.specs.Agree.{KnowsSame}
+use Rattle.kn_alloc.specs.declared.alloc.TheConstants.{CLASSES}
 use Rattle.kn_alloc.specs.declared.stage.Hand.{Hand}
 use Rattle.kn_alloc.specs.declared.stage.Stage.{Stage}
-use Rattle.kn_alloc.specs.declared.stage.Stage.TheVariants.{Resting, TooLong, Returns, Homes, Searches, Takes, Sweeps, Clears, Bears, Homing}
+use Rattle.kn_alloc.specs.declared.stage.Stage.TheVariants.{Resting, TooLong, Returns, Refuses, Searches, Takes, Sweeps, Clears, Bears, PutsHome}
 use Rattle.kn_alloc.specs.Cells.{CannotServe}
 use Rattle.kn_alloc.specs.Keeps.{Keeps, HasHand, claim_word}
 
@@ -57,10 +58,10 @@ pub record InHand (z : Sizes) (v : View) (here : ℕ → Bool) (stage : Stage) (
 
 -- the frame is the one of which the stage speaks
 abbrev pub IsStaged : Stage → ℕ → Type 0
-IsStaged (Homes p word) q = p ≡ q
+IsStaged (Refuses p word) q = p ≡ q
 IsStaged (Takes p old) q = p ≡ q
 IsStaged (Sweeps p) q = p ≡ q
-IsStaged (Homing p word) q = p ≡ q
+IsStaged (PutsHome p word) q = p ≡ q
 IsStaged _ q = ⊥
 
 abbrev pub IsHeld : List (Option Hand) → ℕ → Type 0
@@ -179,14 +180,14 @@ abbrev pub AtStage : Stage → Keeps → Stand → (ℕ → Bool) → Type 0
 AtStage Resting m a here = IsQuiet a.view
 AtStage TooLong m a here = IsQuiet a.view
 AtStage Returns m a here = IsToReturn m a here
-AtStage (Homes p word) m a here = IsToRefuse p word m a here
+AtStage (Refuses p word) m a here = IsToRefuse p word m a here
 AtStage Searches m a here = IsToSearch m a here
 AtStage (Takes p old) m a here = IsToTake p old m a here
 AtStage (Sweeps p) m a here = ⊥
 AtStage (Clears cell zero) m a here = IsToClear cell m a here
 AtStage (Clears cell (suc i)) m a here = IsCleared cell (suc i) m a here × (suc i < cell.len)
 AtStage (Bears cell) m a here = IsCleared cell cell.len m a here
-AtStage (Homing p word) m a here = IsQuiet a.view × GoesHome a.heap.sizes a.view here p word
+AtStage (PutsHome p word) m a here = IsQuiet a.view × GoesHome a.heap.sizes a.view here p word
 
 -- whose allocator it is, over which heap; the pages in hand are those of frames that the caller owns, and each frame that it
 -- owns is in a hand or the stage's
@@ -196,7 +197,7 @@ pub record Agrees (m : Keeps) (a : Stand) (here : ℕ → Bool) : Type 0 where
   pub caller : a.by ≡ m.by
   pub thread : m.by < a.heap.sizes.threads
   pub search_sizes : m.search.sizes ≡ m.sizes
-  pub classes : length m.hands ≡ 36
+  pub classes : length m.hands ≡ CLASSES
   pub hands : (k : ℕ) (hand : Hand) → HasHand m.hands k hand → InHand a.heap.sizes a.view here m.stage m.class k hand
   pub held : (p : ℕ) (o : Open) → owns a.view p ≡ Some o → IsHeld m.hands p ⊎ IsStaged m.stage p
   pub at : AtStage m.stage m a here
@@ -216,25 +217,25 @@ abbrev pub IsSweeping : Stage → Type 0
 IsSweeping (Sweeps p) = Unit {0}
 IsSweeping _ = ⊥
 
--- a call of the allocator is under way
-abbrev pub IsUnderWay : Stage → Type 0
-IsUnderWay Resting = ⊥
-IsUnderWay (Homing p word) = ⊥
-IsUnderWay (Sweeps p) = ⊥
-IsUnderWay _ = Unit {0}
+-- a turn may be made: a request is under way, and not at a sweep
+abbrev pub MayTurn : Stage → Type 0
+MayTurn Resting = ⊥
+MayTurn (PutsHome p word) = ⊥
+MayTurn (Sweeps p) = ⊥
+MayTurn _ = Unit {0}
 
 -- a request is under way that is not too long
 abbrev pub IsGetting : Stage → Type 0
 IsGetting Resting = ⊥
 IsGetting TooLong = ⊥
 IsGetting (Sweeps p) = ⊥
-IsGetting (Homing p word) = ⊥
+IsGetting (PutsHome p word) = ⊥
 IsGetting _ = Unit {0}
 
 -- no page goes out: the stage is at rest, or a page goes home
 abbrev pub IsIdle : Stage → Type 0
 IsIdle Resting = Unit {0}
-IsIdle (Homing p word) = Unit {0}
+IsIdle (PutsHome p word) = Unit {0}
 IsIdle _ = ⊥
 
 -- no call is under way

@@ -10,11 +10,11 @@ use Rattle.kn_steps.specs.Made.{Stand, Moved as WasMoved}
 use Rattle.kn_page.specs.PageViews.{page_view}
 use Rattle.kn_alloc.specs.declared.stage.Hand.{Hand}
 use Rattle.kn_alloc.specs.declared.stage.Stage.{Stage}
-use Rattle.kn_alloc.specs.declared.stage.Stage.TheVariants.{Resting, Homing}
+use Rattle.kn_alloc.specs.declared.stage.Stage.TheVariants.{Resting, PutsHome}
 use Rattle.kn_alloc.specs.declared.stage.HomeTurn.{HomeTurn}
 use Rattle.kn_alloc.specs.declared.stage.HomeTurn.TheVariants.{Moved, Done}
 use Rattle.kn_alloc.specs.Keeps.{Keeps, HasHand, home_number}
-use Rattle.kn_alloc.specs.Turns.{Steps}
+use Rattle.kn_alloc.specs.Turns.{MakesStep}
 
 -- in which order pages go home: a single one first, and then by rising class
 abbrev pub home_rank : ℕ → ℕ
@@ -38,11 +38,11 @@ module _ {T : Type 0} (stand : T → Stand) (here : T → ℕ → Bool) (did : T
     pub result : Option FrameView
     pub made : WasMoved (stand s) (here s) hand.frame (Some (page_view hand.page)) result (stand s') (here s')
     pub kept : moved s hand.frame (Some (page_view hand.page)) result s'
-    pub after : m' ≡ record m { hands = slice_set m.hands class None; stage = Homing hand.frame (home_number hand) }
+    pub after : m' ≡ record m { hands = slice_set m.hands class None; stage = PutsHome hand.frame (home_number hand) }
 
   -- its frame was given back
   pub record IsGivenBack (p word : ℕ) (m : Keeps) (s s' : T) (m' : Keeps) : Type 0 where
-    pub made : Steps stand here did moved (does K11 (Frame p) (Stores word)) s s'
+    pub made : MakesStep stand here did moved (does K11 (Frame p) (Stores word)) s s'
     pub after : m' ≡ record m { stage = Resting }
 
   -- with no page in hand nothing was done
@@ -54,7 +54,7 @@ module _ {T : Type 0} (stand : T → Stand) (here : T → ℕ → Bool) (did : T
   abbrev pub WentHomeAt : Stage → Keeps → T → T → Keeps → HomeTurn → Type 0
   WentHomeAt Resting m s s' m' Moved = SendsHome m s s' m'
   WentHomeAt Resting m s s' m' Done = HasNone m s s' m'
-  WentHomeAt (Homing p word) m s s' m' Moved = IsGivenBack p word m s s' m'
+  WentHomeAt (PutsHome p word) m s s' m' Moved = IsGivenBack p word m s s' m'
   WentHomeAt _ m s s' m' answer = ⊥
 
   -- one turn: the next page went into its slot, or its frame was given back, or there was none

@@ -6,13 +6,15 @@ use Rattle.kn_base.specs.declared.kinds.FrameKind.{FrameKind}
 use Rattle.kn_base.specs.declared.kinds.FrameKind.TheVariants as frames
 use Rattle.kn_base.specs.declared.frame_word.FrameWord.{FrameWord}
 use Rattle.kn_base.specs.Pages.{FrameView, IsWholePage, whole_view}
-use Rattle.kn_base.specs.Words.{IsHeaderWord, packed_frame, packed_header}
+use Rattle.kn_base.specs.declared.kinds.Colour.TheVariants.{Black}
+use Rattle.kn_base.specs.Words.{IsHeaderWord, packed_frame, packed_header, packed_mark}
 use Rattle.kn_rule.specs.Decoding.{PacksFrame, frame_of}
 use Rattle.kn_rule.specs.Requests.{class_for, home_word, is_too_long, owned_word}
 use Rattle.kn_page.specs.PageViews.{page_view}
 use Rattle.kn_store.specs.declared.look.Look.{Look}
 use Rattle.kn_store.specs.declared.look.Look.TheVariants.{Looking, Found, Full}
 use Rattle.kn_store.specs.Search.{Search, new_search}
+use Rattle.kn_alloc.specs.declared.alloc.TheConstants.{CLASSES}
 use Rattle.kn_alloc.specs.declared.stage.Hand.{Hand}
 use Rattle.kn_alloc.specs.declared.stage.Stage.{Stage}
 use Rattle.kn_alloc.specs.declared.stage.Stage.TheVariants.{Resting, TooLong, Returns, Searches, Takes, Sweeps, Clears, Bears}
@@ -43,7 +45,7 @@ new_keeps z by = record {
   header = 0;
   epoch = 0;
   stage = Resting;
-  hands = replicate 36 None;
+  hands = replicate CLASSES None;
   search = new_search z 2 0 0;
 }
 
@@ -152,6 +154,10 @@ IsLookRight _ = Unit {0}
 -- word i of the cell, when it is cleared
 abbrev pub word_at : Keeps → ℕ → ℕ
 word_at m i = cond (i == 0) m.header 0
+
+-- the mark with which an object is born in this epoch: black
+abbrev pub born_mark : ℕ → ℕ
+born_mark epoch = packed_mark (record { epoch = epoch; colour = Black })
 
 -- the stage behind the clearing of word i of a cell
 abbrev pub stage_after : Span → ℕ → Stage

@@ -1,5 +1,5 @@
 -- One turn of the allocator over one caller's steps.
-use Rattle.std.specs.Prelude.{◌≡◌, ℕ, ◌+◌, ◌*◌, ◌⊎◌, Bool, Option, Some, None, slice_set}
+use Rattle.std.specs.Prelude.{◌≡◌, ℕ, ◌+◌, ◌⊎◌, Bool, Option, Some, None, slice_set}
 use Rattle.kn_base.specs.declared.places.Place.TheVariants.{Frame, Side, Body}
 use Rattle.kn_base.specs.Pages.{FrameView}
 use Rattle.kn_base.specs.declared.numbers.Span.{Span}
@@ -15,10 +15,10 @@ use Rattle.kn_store.specs.Search.{Search, IsOver, with_refused}
 use Rattle.kn_store.specs.Agree.{Turned as SearchTurned}
 use Rattle.kn_alloc.specs.declared.stage.Hand.{Hand}
 use Rattle.kn_alloc.specs.declared.stage.Stage.{Stage}
-use Rattle.kn_alloc.specs.declared.stage.Stage.TheVariants.{Resting, TooLong, Returns, Homes, Searches, Takes, Clears, Bears}
+use Rattle.kn_alloc.specs.declared.stage.Stage.TheVariants.{Resting, TooLong, Returns, Refuses, Searches, Takes, Clears, Bears}
 use Rattle.kn_alloc.specs.declared.stage.AllocTurn.{AllocTurn}
 use Rattle.kn_alloc.specs.declared.stage.AllocTurn.TheVariants.{Moved, Born, Full}
-use Rattle.kn_alloc.specs.Keeps.{Keeps, HasHand, Tries, claim_word, home_number, readied, stage_after, stage_behind, word_at}
+use Rattle.kn_alloc.specs.Keeps.{Keeps, HasHand, Tries, born_mark, claim_word, home_number, readied, stage_after, stage_behind, word_at}
 
 -- Full where the search was over, and otherwise a turn was made
 abbrev pub answer_of : Look → AllocTurn
@@ -33,7 +33,7 @@ EndsOrGoesOn search stage answer =
 module _ {T : Type 0} (stand : T → Stand) (here : T → ℕ → Bool) (did : T → Step → Found → T → Type 0)
     (moved : T → ℕ → Option FrameView → Option FrameView → T → Type 0) where
   -- this step was made
-  pub record Steps (d : Step) (s s' : T) : Type 0 where
+  pub record MakesStep (d : Step) (s s' : T) : Type 0 where
     pub found : Found
     pub made : Made (stand s) (here s) d found (stand s') (here s')
     pub kept : did s d found s'
@@ -45,12 +45,12 @@ module _ {T : Type 0} (stand : T → Stand) (here : T → ℕ → Bool) (did : T
     pub result : Option FrameView
     pub made : WasMoved (stand s) (here s) hand.frame (Some (page_view hand.page)) result (stand s') (here s')
     pub kept : moved s hand.frame (Some (page_view hand.page)) result s'
-    pub after : m' ≡ record m { hands = slice_set m.hands m.class None; stage = Homes hand.frame (home_number hand) }
+    pub after : m' ≡ record m { hands = slice_set m.hands m.class None; stage = Refuses hand.frame (home_number hand) }
     pub answer : reply ≡ Moved
 
   -- the frame was given back, and is refused
   pub record IsRefused (p word : ℕ) (m : Keeps) (s s' : T) (m' : Keeps) (reply : AllocTurn) : Type 0 where
-    pub made : Steps (does K11 (Frame p) (Stores word)) s s'
+    pub made : MakesStep (does K11 (Frame p) (Stores word)) s s'
     pub stage : Stage
     pub after : m' ≡ record m { search = with_refused m.search p; stage = stage }
     pub behind : EndsOrGoesOn (with_refused m.search p) stage reply
@@ -78,13 +78,13 @@ module _ {T : Type 0} (stand : T → Stand) (here : T → ℕ → Bool) (did : T
 
   -- a word of the cell was cleared
   pub record ClearsWord (cell : Span) (i : ℕ) (m : Keeps) (s s' : T) (m' : Keeps) (reply : AllocTurn) : Type 0 where
-    pub made : Steps (does K12 (Body (cell.start + i)) (Stores (word_at m i))) s s'
+    pub made : MakesStep (does K12 (Body (cell.start + i)) (Stores (word_at m i))) s s'
     pub after : m' ≡ record m { stage = stage_after cell i }
     pub answer : reply ≡ Moved
 
   -- the cell was born
   pub record BearsCell (cell : Span) (m : Keeps) (s s' : T) (m' : Keeps) (reply : AllocTurn) : Type 0 where
-    pub made : Steps (does K8 (Side cell.start) (Stores (4 * m.epoch + 3))) s s'
+    pub made : MakesStep (does K8 (Side cell.start) (Stores (born_mark m.epoch))) s s'
     pub after : m' ≡ record m { stage = Resting }
     pub answer : reply ≡ Born cell.start
 
@@ -98,7 +98,7 @@ module _ {T : Type 0} (stand : T → Stand) (here : T → ℕ → Bool) (did : T
   abbrev pub TurnedAt : Stage → Keeps → T → T → Keeps → AllocTurn → Type 0
   TurnedAt TooLong = IsDenied
   TurnedAt Returns = GoesBack
-  TurnedAt (Homes p word) = IsRefused p word
+  TurnedAt (Refuses p word) = IsRefused p word
   TurnedAt Searches = Seeks
   TurnedAt (Takes p old) = TakesPage p old
   TurnedAt (Clears cell i) = ClearsWord cell i
@@ -112,7 +112,7 @@ module _ {T : Type 0} (stand : T → Stand) (here : T → ℕ → Bool) (did : T
 abbrev pub IsFullAt : Stage → Search → Type 0
 IsFullAt TooLong search = Unit {0}
 IsFullAt Searches search = IsOver search
-IsFullAt (Homes p word) search = IsOver search
+IsFullAt (Refuses p word) search = IsOver search
 IsFullAt _ search = ⊥
 
 -- the turn at this stage bears the cell at the address

@@ -11,17 +11,20 @@ ghost use Rattle.kn_steps.specs.Turns.{MetUnswept, OneTurn};
 ghost use Rattle.kn_store.specs.Search.{IsOver, with_refused};
 ghost use Rattle.kn_store.specs.Agree.{Agrees as SearchAgrees, KnowsSame, OnlySaw, SawFull, TellsOver, Turned as SearchTurned};
 ghost use Rattle.kn_store.specs.declared.look.Look.TheVariants.{Looking, Full as LookFull};
+ghost use Rattle.kn_alloc.specs.declared.alloc.TheConstants.{CLASSES};
 ghost use Rattle.kn_alloc.specs.declared.stage.Hand.{Hand};
-ghost use Rattle.kn_alloc.specs.declared.stage.Stage.TheVariants.{Resting, TooLong, Returns, Homes, Searches, Takes, Clears, Bears, Homing};
+ghost use Rattle.kn_alloc.specs.declared.stage.Stage.TheVariants.{Resting, TooLong, Returns, Refuses, Searches, Takes, Clears, Bears, PutsHome};
 ghost use Rattle.kn_alloc.specs.declared.stage.AllocTurn.TheVariants.{Moved, Born, Full};
 ghost use Rattle.kn_alloc.specs.Keeps.{AreByClass, IsHeaderOf, Starts, begun, header_asked, new_keeps, readied, stage_after, stage_behind, word_at};
-ghost use Rattle.kn_alloc.specs.Keeps.{words_of_request};
+ghost use Rattle.kn_alloc.specs.Keeps.{born_mark, words_of_request};
 ghost use Rattle.kn_alloc.specs.Turns.{Turned, IsBornAt, IsFullAt, BearsCell, ClearsWord, GoesBack, IsDenied, IsRefused, Seeks};
 ghost use Rattle.kn_alloc.specs.Turns.{TakesPage};
-ghost use Rattle.kn_alloc.specs.Agree.{Agrees, HasBegun, IsGetting, IsSweeping, IsUnderWay, MayRefuse};
+ghost use Rattle.kn_alloc.specs.Agree.{Agrees, HasBegun, IsGetting, IsSweeping, MayTurn, MayRefuse};
 ghost use Rattle.kn_alloc.specs.Tells.{IsBehind, IsKept, TellsView};
 
-use crate::stage::{AllocTurn, Hand, Request, Stage, answer_of, stage_after, stage_behind};
+use crate::stage::{
+    AllocTurn, Hand, Request, Stage, answer_of, born_mark, stage_after, stage_behind,
+};
 use kn_base::{Caller, FrameNo, HeaderWord, Place, Sizes, Span};
 use kn_page::Page;
 use kn_rule::laws::frame_law;
@@ -52,6 +55,7 @@ impl Model for ThreadAlloc {
     ghost use Rattle.std.specs.Prelude.{◌≡◌, ◌≤◌, length};
     ghost use Rattle.kn_base.specs.Sizes.{IsGood};
     ghost use Rattle.kn_base.specs.Classes.{IsClassNumber};
+    ghost use Rattle.kn_alloc.specs.declared.alloc.TheConstants.{CLASSES};
     ghost use Rattle.kn_alloc.specs.Keeps.{Keeps};
 
     ghost Value = { Keeps };
@@ -68,7 +72,7 @@ impl Model for ThreadAlloc {
       search = a.finder;
     } };
 
-    ghost invariant = { λ a. IsGood a.sizes × (a.by ≤ 17) × (length a.hands.items ≡ 36) };
+    ghost invariant = { λ a. IsGood a.sizes × (a.by ≤ 17) × (length a.hands.items ≡ CLASSES) };
 }
 
 impl ThreadAlloc {
@@ -115,7 +119,7 @@ impl ThreadAlloc {
     /// leaves of the caller's view is in `specs/Tells.antt`.
     pub fn turn<T: Steps<Page>>(&mut self, steps: &mut T) -> AllocTurn
         requires agrees { Agrees self.old (T.stand steps.old) (T.here steps.old) }
-        requires under_way { IsUnderWay self.old.stage }
+        requires under_way { MayTurn self.old.stage }
         ensures turned { Turned T.stand T.here T.did T.moved self.old steps.old steps.new self.new result }
         ensures agrees { (¬ IsSweeping self.new.stage) → Agrees self.new (T.stand steps.new) (T.here steps.new) }
         ensures tells { TellsView self.old.stage result (T.stand steps.old) (T.stand steps.new) }
@@ -131,7 +135,7 @@ impl ThreadAlloc {
 
     fn goes_on<T: Steps<Page>>(&mut self, steps: &mut T) -> AllocTurn
         requires agrees { Agrees self.old (T.stand steps.old) (T.here steps.old) }
-        requires under_way { IsUnderWay self.old.stage }
+        requires under_way { MayTurn self.old.stage }
         ensures turned { Turned T.stand T.here T.did T.moved self.old steps.old steps.new self.new result }
         ensures agrees { (¬ IsSweeping self.new.stage) → Agrees self.new (T.stand steps.new) (T.here steps.new) }
         ensures tells { TellsView self.old.stage result (T.stand steps.old) (T.stand steps.new) }
@@ -139,12 +143,12 @@ impl ThreadAlloc {
         match self.stage {
             Stage::TooLong => self.denies(steps),
             Stage::Returns => self.returns(steps),
-            Stage::Homes(frame, word) => self.gives_back(steps, frame, word),
+            Stage::Refuses(frame, word) => self.gives_back(steps, frame, word),
             Stage::Searches => self.searches(steps),
             Stage::Takes(frame, old) => self.takes(steps, frame, old),
             Stage::Clears(cell, number) => self.clears(steps, cell, number),
             Stage::Bears(cell) => self.bears(steps, cell),
-            Stage::Resting | Stage::Sweeps(_) | Stage::Homing(_, _) => unreachable!(),
+            Stage::Resting | Stage::Sweeps(_) | Stage::PutsHome(_, _) => unreachable!(),
         }
     }
 
@@ -170,13 +174,13 @@ impl ThreadAlloc {
         let word = hand.home_word();
         let Hand { frame, page, .. } = hand;
         steps.move_page(FrameNo(frame), Some(page));
-        self.goes_to(Stage::Homes(frame, word));
+        self.goes_to(Stage::Refuses(frame, word));
         AllocTurn::Moved
     }
 
     fn gives_back<T: Steps<Page>>(&mut self, steps: &mut T, frame: u16, word: u64) -> AllocTurn
         requires agrees { Agrees self.old (T.stand steps.old) (T.here steps.old) }
-        requires stage { self.old.stage ≡ Homes frame word }
+        requires stage { self.old.stage ≡ Refuses frame word }
         ensures turned { IsRefused T.stand T.here T.did T.moved frame word self.old steps.old steps.new self.new result }
         ensures agrees { Agrees self.new (T.stand steps.new) (T.here steps.new) }
         ensures tells { TellsView self.old.stage result (T.stand steps.old) (T.stand steps.new) }
@@ -350,14 +354,14 @@ impl ThreadAlloc {
 
     // The mark with which an object is born.
     fn mark(&self) -> u64
-        ensures { result ≡ 4 * self.now.epoch + 3 }
+        ensures { result ≡ born_mark self.now.epoch }
     {
-        4 * u64::from(self.epoch) + 3
+        born_mark(self.epoch)
     }
 }
 
 fn no_hands(alloc: Global) -> Result<Vec<Option<Hand>>, AllocError>
-    ensures { IfOk result (λ hands. hands.items ≡ replicate 36 None) }
+    ensures { IfOk result (λ hands. hands.items ≡ replicate CLASSES None) }
 {
     let mut hands = Vec::with_capacity(alloc, CLASSES)?;
     for _number in 0..CLASSES {

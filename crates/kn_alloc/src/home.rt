@@ -3,8 +3,9 @@ ghost use Rattle.std.specs.Prelude.{◌≡◌, ℕ, ◌<◌, ◌↔◌, IsTrue, 
 ghost use Rattle.kn_base.specs.declared.classes.TheConstants.{SINGLE_CLASS};
 ghost use Rattle.kn_rule.specs.Views.{owns};
 ghost use Rattle.kn_steps.specs.Turns.{OneTurn};
+ghost use Rattle.kn_alloc.specs.declared.alloc.TheConstants.{CLASSES};
 ghost use Rattle.kn_alloc.specs.declared.stage.Hand.{Hand};
-ghost use Rattle.kn_alloc.specs.declared.stage.Stage.TheVariants.{Homing, Resting};
+ghost use Rattle.kn_alloc.specs.declared.stage.Stage.TheVariants.{PutsHome, Resting};
 ghost use Rattle.kn_alloc.specs.declared.stage.HomeTurn.TheVariants.{Done, Moved};
 ghost use Rattle.kn_alloc.specs.Keeps.{HasHand};
 ghost use Rattle.kn_alloc.specs.Homes.{IsFirstHome, IsGivenBack, IsNoHand, SendsHome, WentHome};
@@ -47,7 +48,7 @@ impl ThreadAlloc {
         ensures done { (result ≡ Done) ↔ ((p : ℕ) → owns (T.stand steps.old).view p ≡ None) }
     {
         match self.stage {
-            Stage::Homing(frame, word) => self.gives_home(steps, frame, word),
+            Stage::PutsHome(frame, word) => self.gives_home(steps, frame, word),
             Stage::Resting => match self.next_home() {
                 Some(class) => self.sends_home(steps, class),
                 None => HomeTurn::Done,
@@ -57,7 +58,7 @@ impl ThreadAlloc {
     }
 
     /// Whether a page for a single object is in hand.
-    pub fn owns_single(&self) -> bool
+    pub fn has_single(&self) -> bool
         ensures { IsTrue result ↔ ((hand : Hand) × HasHand self.now.hands SINGLE_CLASS hand) }
     {
         self.has_hand(SINGLE_CLASS)
@@ -71,7 +72,7 @@ impl ThreadAlloc {
     }
 
     fn has_hand(&self, class: u16) -> bool
-        requires { class < 36 }
+        requires { class < CLASSES }
         ensures { IsTrue result ↔ ((hand : Hand) × HasHand self.now.hands class hand) }
     {
         self.hands[usize::from(class)].is_some()
@@ -105,13 +106,13 @@ impl ThreadAlloc {
         let word = hand.home_word();
         let Hand { frame, page, .. } = hand;
         steps.move_page(FrameNo(frame), Some(page));
-        self.goes_to(Stage::Homing(frame, word));
+        self.goes_to(Stage::PutsHome(frame, word));
         HomeTurn::Moved
     }
 
     fn gives_home<T: Steps<Page>>(&mut self, steps: &mut T, frame: u16, word: u64) -> HomeTurn
         requires agrees { Agrees self.old (T.stand steps.old) (T.here steps.old) }
-        requires stage { self.old.stage ≡ Homing frame word }
+        requires stage { self.old.stage ≡ PutsHome frame word }
         requires no_call { IsNoCall (T.stand steps.old).view.position }
         ensures went { IsGivenBack T.stand T.here T.did T.moved frame word self.old steps.old steps.new self.new }
         ensures agrees { Agrees self.new (T.stand steps.new) (T.here steps.new) }

@@ -5,6 +5,7 @@ ghost use Rattle.kn_base.specs.declared.classes.TheConstants.{LEAST_CELL};
 ghost use Rattle.kn_page.specs.PageViews.{page_view};
 ghost use Rattle.kn_rule.specs.Decoding.{PacksFrame, frame_of};
 ghost use Rattle.kn_rule.specs.Requests.{class_for};
+ghost use Rattle.kn_alloc.specs.declared.alloc.TheConstants.{CLASSES};
 ghost use Rattle.kn_alloc.specs.declared.stage.Hand.{Hand};
 ghost use Rattle.kn_alloc.specs.Cells.{AsksFor};
 ghost use Rattle.kn_alloc.specs.Keeps.{AreByClass, HasHand, IsReadyFor, LooksInHand, TriesHand, claim_word, readied};
@@ -78,7 +79,7 @@ impl ThreadAlloc {
     // Takes the page in hand of a class out of the hand.
     pub(crate) fn hand_out(&mut self, class: u16) -> Hand
         requires some { (hand : Hand) × HasHand self.old.hands class hand }
-        requires class { class < 36 }
+        requires class { class < CLASSES }
         ensures had { HasHand self.old.hands class result }
         ensures after { self.new ≡ record self.old { hands = slice_set self.old.hands class None } }
     {
@@ -90,7 +91,7 @@ impl ThreadAlloc {
 
     // Takes the page in hand of a class out of the hand, where there is one.
     fn hand_if_any(&mut self, class: u16) -> Option<Hand>
-        requires { class < 36 }
+        requires { class < CLASSES }
         ensures had { slice_get self.old.hands class ≡ Some result }
         ensures after { self.new ≡ record self.old { hands = slice_set self.old.hands class None } }
     {

@@ -7,7 +7,7 @@ ghost use Rattle.kn_rule.specs.Requests.{home_word as home_word_of};
 ghost use Rattle.kn_alloc.specs.Turns;
 ghost use Rattle.kn_alloc.specs.Keeps.{IsLookRight, class_at, home_number};
 
-use kn_base::{FrameKind, FramePage, FrameWord, Span};
+use kn_base::{Colour, FrameKind, FramePage, FrameWord, MarkWord, Span};
 use kn_page::Page;
 use kn_store::Look;
 
@@ -88,8 +88,9 @@ pub enum Stage {
     TooLong,
     /// The page in hand of the class has no cell for the request, and goes back to its slot.
     Returns,
-    /// A frame whose page has no cell for the request is given back: the frame, its word.
-    Homes(u16, u64),
+    /// The page had no cell for the request and is back in its slot; its frame is given back, and refused
+    /// in the search: the frame, the word with which it is given back.
+    Refuses(u16, u64),
     /// A frame is searched for.
     Searches,
     /// A frame was claimed, and its page comes out of its slot: the frame, its word before.
@@ -101,7 +102,18 @@ pub enum Stage {
     /// The cell is cleared, and is to be born.
     Bears(Span),
     /// The page of a frame went home: the frame, the word with which it is given back.
-    Homing(u16, u64),
+    PutsHome(u16, u64),
+}
+
+// The mark with which an object is born.
+pub(crate) fn born_mark(epoch: u32) -> u64
+    ensures { result ≡ Rattle.kn_alloc.specs.Keeps.born_mark epoch }
+{
+    let mark = MarkWord {
+        epoch,
+        colour: Colour::Black,
+    };
+    mark.pack()
 }
 
 // The stage behind a page that was asked for a cell.

@@ -15,10 +15,10 @@ use Rattle.kn_graph.specs.Ground.{Ground, IsGoodGround}
 use Rattle.kn_graph.specs.Graph.{Graph}
 use Rattle.kn_rule.specs.declared.steps.Kind.{Kind}
 use Rattle.kn_rule.specs.declared.steps.Kind.TheVariants.{K1, K2, K3, K4, K5, K6}
-use Rattle.kn_rule.specs.declared.steps.Kind.TheVariants.{K7, K8, K9, K10, K11, K12}
+use Rattle.kn_rule.specs.declared.steps.Kind.TheVariants.{K7, K8, K9, K10, K11, K12, K13, K14, K15, K16}
 use Rattle.kn_rule.specs.declared.steps.Action.{Action}
 use Rattle.kn_rule.specs.declared.positions.Position.{Position}
-use Rattle.kn_rule.specs.declared.positions.Position.TheVariants.{Out, Entering, Between, Calling}
+use Rattle.kn_rule.specs.declared.positions.Position.TheVariants.{Out, Entering, Between, Calling, Waiting}
 use Rattle.kn_rule.specs.declared.parts.Taken.{Taken}
 use Rattle.kn_rule.specs.Decoding.{frame_of}
 use Rattle.kn_rule.specs.Places.{Within}
@@ -26,14 +26,14 @@ use Rattle.kn_rule.specs.Views.{View, State, Open, owns, flattened}
 use Rattle.kn_rule.specs.Requests.{birth_of, AreFree}
 use Rattle.kn_rule.specs.Steps.{does, callers, frame_in}
 use Rattle.kn_rule.specs.Allowed.{MayBegin as MayBeginCall}
-use Rattle.kn_rule.specs.Allowed.{MayBe, MayPollAt, MayWriteAt, MayLoadAt, MayReadGlobalAt, MayPoll, MayStoreState, MayWrite, MayLoadBody}
+use Rattle.kn_rule.specs.Allowed.{MayBe, MayEnterFor, MayPollAt, MayWriteAt, MayLoadAt, MayReadGlobalAt, MayPoll, MayStoreState, MayWrite, MayLoadBody}
 use Rattle.kn_rule.specs.Allowed.{MayReadGlobal, MayBirth, MayLook, MayClaim}
 use Rattle.kn_rule.specs.Allowed.{MayGiveBack, MayClear, MayClearFor}
 use Rattle.kn_rule.specs.HistoryClauses.{IsRightCall}
 use Rattle.kn_rule.specs.Rule.{Rule}
 use Rattle.kn_rule.proofs.FrameSpans.{in_heap}
 use Rattle.kn_keep_heap.proofs.Values.{below_sixteen}
-use Rattle.kn_keep_heap.proofs.Withins.{steps_lie_within}
+use Rattle.kn_keep_mark.proofs.Withins.{steps_lie_within}
 use Rattle.kn_keep_heap.proofs.ReadLaws.{ranges}
 use Rattle.kn_view.specs.Parts.{Part, view_with, MayBegin, IsReadable, IsBirthLocal}
 use Rattle.kn_holds.specs.Holds.{Hold}
@@ -67,11 +67,16 @@ module _ (z : Ground) (good : IsGoodGround z) (s : State) (rule : Rule z s) (by 
       subst (λ (v : View). v.births ≤ slice_index z.sizes.births by) is (rule.1.told.births_fit by less) in
       (m.in_range, omega arith, omega arith)
 
+  enters : by < z.sizes.threads → (call : Call) (t : Option ℕ) → MayEnterFor z by v here t (Some call) → MayBegin z part (Some call)
+  enters less call None m = begun less call m
+  enters less call (Some n) m = let x : Option.Some call ≡ None = m in absurd (cc)
+
   begins : by < z.sizes.threads → (next : Option Call) (q : Position) → MayPollAt z by v here q next → MayBegin z part next
   begins less None q m = tt
   begins less (Some call) Out m = let x : Option.Some call ≡ None = m in absurd (cc)
-  begins less (Some call) Entering m = begun less call m.1
+  begins less (Some call) Entering m = enters less call v.target m
   begins less (Some call) Between m = begun less call m.1
+  begins less (Some call) Waiting m = let x : Option.Some call ≡ None = m in absurd (cc)
   begins less (Some call) _ m = absurd m
 
   births_at : (call : Call) (b : ℕ × ℕ × ℕ) → birth_of z call ≡ Some b → IsInRange z call → IsBirthLocal (Calling call)
@@ -208,4 +213,8 @@ module _ (z : Ground) (good : IsGoodGround z) (s : State) (rule : Rule z s) (by 
         asks_by K10 m = claim m
         asks_by K11 m = home m
         asks_by K12 m = clear m
+        asks_by K13 m = tt
+        asks_by K14 m = record { value = m.value; act = m.act }
+        asks_by K15 m = record { mutator = m.mutator; place = m.place; near = m.near }
+        asks_by K16 m = tt
         asks_by _ m = absurd m

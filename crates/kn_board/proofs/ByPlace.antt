@@ -6,10 +6,10 @@ use Rattle.kn_graph.specs.declared.entries.Entry.{Entry}
 use Rattle.kn_graph.specs.Ground.{Ground}
 use Rattle.kn_rule.specs.declared.steps.Action.{Action}
 use Rattle.kn_rule.specs.declared.steps.Action.TheVariants.{Stores}
-use Rattle.kn_rule.specs.Steps.{Found, address_in, local_in, word_stored}
-use Rattle.kn_rule.specs.Outcomes.{went, write_at, born_at}
+use Rattle.kn_rule.specs.Steps.{Found, address_in, local_in, word_stored, state_in}
+use Rattle.kn_rule.specs.Outcomes.{went, write_at, born_at, phase_stored, state_loaded}
 use Rattle.kn_view.specs.Parts.{Part, Makes}
-use Rattle.kn_board.specs.Asks.{AsksState, AsksWrite, AsksBirth}
+use Rattle.kn_board.specs.Asks.{AsksState, AsksWrite, AsksBirth, AsksPhase, AsksLoadState}
 
 module _ (z : Ground) (by : ℕ) (old new : Part) (said : Option Entry) (p : Place) (a : Action) (f : Found) where
   pub went_there : AsksState z by old p a f.word → (w : ℕ) → w ≡ word_stored a →
@@ -33,3 +33,15 @@ module _ (z : Ground) (by : ℕ) (old new : Part) (said : Option Entry) (p : Pla
   born_there asks b e h =
       let place : Side b ≡ p = ap Side (e ∙ ap address_in asks.place) ∙ sym asks.place in
       subst (λ q. Makes z old new said (λ v. born_at z by v q a f old.position)) place h
+
+  pub phase_there : AsksPhase z by old p a f.word → (w : ℕ) → w ≡ word_stored a →
+      Makes z old new said (λ v. phase_stored z by v p (Stores w) f) → Makes z old new said (λ v. phase_stored z by v p a f)
+  phase_there asks w e h =
+      let act : Stores w ≡ a = ap Stores (e ∙ ap word_stored asks.act) ∙ sym asks.act in
+      subst (λ b. Makes z old new said (λ v. phase_stored z by v p b f)) act h
+
+  pub state_there : AsksLoadState z by old p a f.word → (i : ℕ) → i ≡ state_in p →
+      Makes z old new said (λ v. state_loaded z by v (State i) a f) → Makes z old new said (λ v. state_loaded z by v p a f)
+  state_there asks i e h =
+      let place : State i ≡ p = ap State (e ∙ ap state_in asks.place) ∙ sym asks.place in
+      subst (λ q. Makes z old new said (λ v. state_loaded z by v q a f)) place h

@@ -1,7 +1,7 @@
 -- What is left to show of a claim.
-use Rattle.std.proofs.Common.{◌≡◌, ◌≢◌, ℕ, ◌<◌, ◌≤◌, ◌&&◌, inl, inr, Bool, true, false, cond, List, [], ◌∷◌, Option, Some}
+use Rattle.std.proofs.Common.{◌≡◌, ◌≢◌, ℕ, ◌<◌, ◌≤◌, inl, inr, Bool, true, false, cond, Option, Some}
 use Rattle.std.proofs.Common.{None, refl, sym, ap, ◌∙◌, subst}
-use Rattle.std.proofs.Common.{slice_get, arith, eq-eqb}
+use Rattle.std.proofs.Common.{slice_get, arith}
 use Rattle.std.specs.Prelude.{IsTrue}
 use Rattle.kn_base.specs.declared.numbers.Span.{Span}
 use Rattle.kn_base.specs.declared.places.Place.{Place}
@@ -30,6 +30,7 @@ use Rattle.kn_rule.specs.Moves.{IsPageOf}
 use Rattle.kn_rule.specs.FrameClauses.{HomePage, IsFilled}
 use Rattle.kn_rule.specs.Rule.{Rule}
 use Rattle.kn_rule.proofs.Decodings.{frame_packed}
+use Rattle.kn_rule.proofs.WholeFrames.{not_whole}
 use Rattle.kn_keep_heap.proofs.Changed.{some_is}
 use Rattle.kn_board.specs.World.{World, slot_at, view_at, IsSlotOf, StandsFor}
 use Rattle.kn_board.proofs.OwnedKept.{look_keeps}
@@ -43,12 +44,6 @@ usable_free class v frames.Ready u e = cc
 usable_free class v frames.Used u e = let y : false ≡ true = u in cc
 usable_free class v frames.Unswept u e = cc
 usable_free class v frames.Owned u e = let y : false ≡ true = u in cc
-
-whole_is : (frame : Span) → is_whole frame (frame ∷ []) ≡ true
-whole_is frame = λ t. eq-eqb frame.start frame.start refl t && eq-eqb frame.len frame.len refl t
-
-not_whole : (frame : Span) (free : List Span) → free ≡ frame ∷ [] → is_whole frame free ≡ false → ⊥
-not_whole frame free e n = let x : true ≡ false = sym (ap (is_whole frame) e ∙ whole_is frame) ∙ n in cc
 
 module _ (w : World) (good : IsGoodGround w.heap) (s : State) (rule : Rule w.heap s) (h : StandsFor w s) (by : ℕ)
     (less : by < callers w.heap.sizes) (f : Found) (class k old : ℕ) (near : k < frame_count w.heap.sizes) (thread : by < w.heap.sizes.threads)
@@ -101,8 +96,8 @@ module _ (w : World) (good : IsGoodGround w.heap) (s : State) (rule : Rule w.hea
   class_by : (q : FrameKind) → IsTrue (is_usable_as class (frame_of old) q) → HasClass q (frame_of old).class → HasStamp q (frame_of old).stamp →
       HomePage z.sizes k q (frame_of old).class filled f.page → is_whole span f.page.free ≡ false →
       f.page.class ≡ (frame_of (packed_frame (owned_as (frame_of old) class (epoch_in x) by q))).class
-  class_by frames.Vacant u c t p n = absurd (not_whole span f.page.free (p.vacant refl) n)
-  class_by frames.Empty u c t p n = absurd (not_whole span f.page.free (p.empty refl) n)
+  class_by frames.Vacant u c t p n = absurd (not_whole span f.page.free n (p.vacant refl))
+  class_by frames.Empty u c t p n = absurd (not_whole span f.page.free n (p.empty refl))
   class_by frames.Ready u c t p n = kept_class c t p.class_is
   class_by frames.Used u c t p n = let y : false ≡ true = u in absurd (cc)
   class_by frames.Unswept u c t p n = kept_class c t p.class_is

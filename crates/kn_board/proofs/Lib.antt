@@ -15,7 +15,7 @@ mod Notings
 mod Unswept
 mod Cutting
 mod ViewsAt
-mod Leavings
+pub mod Leavings
 mod SmallWords
 mod AsksOf
 mod Room

@@ -89,7 +89,12 @@ module _ (z : Ground) (good : IsGoodGround z) (holds : List Hold) (none : AreUno
         record {
           wide = λ c l.
               let part : part_at z known c ≡ new_part z = ap (λ k. part_at z k c) ek ∙ all_same (new_part z) (callers z.sizes) c in
-              subst (IsWide z.sizes) (sym part) (length-replicate (frame_count z.sizes) None, length-replicate (frame_count z.sizes) false);
+              subst (IsWide z.sizes) (sym part) (
+                length-replicate (frame_count z.sizes) None,
+                length-replicate (frame_count z.sizes) false,
+                length-replicate z.sizes.threads false,
+                length-replicate z.sizes.threads false,
+              );
           frames = fits;
           pages = subst (PagesFit z.sizes) (sym slots_are) pages_fit;
           calls = subst (Rattle.kn_board.specs.Room.AreCallsOf z.sizes.threads) (sym eh) tt;

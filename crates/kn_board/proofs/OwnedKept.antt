@@ -1,5 +1,5 @@
 -- Steps that leave what their caller owns.
-use Rattle.std.proofs.Common.{◌≡◌, ℕ, Bool, true, false, Option, Some, None, slice_set, refl}
+use Rattle.std.proofs.Common.{◌≡◌, ℕ, Bool, true, false, cond, Option, Some, None, slice_set, refl}
 use Rattle.kn_base.specs.declared.places.Place.{Place}
 use Rattle.kn_layout.specs.declared.layouts.FieldKind.{FieldKind}
 use Rattle.kn_graph.specs.declared.calls.Call.{Call}
@@ -8,12 +8,13 @@ use Rattle.kn_graph.specs.declared.calls.Reply.{Reply}
 use Rattle.kn_graph.specs.Ground.{Ground}
 use Rattle.kn_rule.specs.declared.steps.Action.{Action}
 use Rattle.kn_rule.specs.declared.positions.Position.{Position}
-use Rattle.kn_rule.specs.declared.positions.Position.TheVariants.{Entering, Between, Calling}
+use Rattle.kn_rule.specs.declared.positions.Position.TheVariants.{Entering, Between, Calling, Waiting, Leaving}
 use Rattle.kn_rule.specs.Views.{View}
-use Rattle.kn_rule.specs.Steps.{Found, Outcome, frame_in}
+use Rattle.kn_rule.specs.Steps.{Found, Outcome, frame_in, quietly}
 use Rattle.kn_rule.specs.Requests.{field_of, birth_of}
 use Rattle.kn_rule.specs.Outcomes.{begin_with, poll_run, poll_at, write_at, header_read, header_for_call, field_read, load_body, store_at}
-use Rattle.kn_rule.specs.Outcomes.{global_read, birth_said, born_at, full_if, looked_at, home_if, home_at}
+use Rattle.kn_rule.specs.Outcomes.{global_read, birth_said, born_at, full_if, looked_at, home_if, home_at, epoch_told, waits_on, enters_for, waits_at}
+use Rattle.kn_rule.specs.Outcomes.{wanted_at}
 
 module _ (z : Ground) (c : ℕ) (v : View) (p : Place) (a : Action) (f : Found) where
   abbrev Keeps : Outcome → Type 0
@@ -27,11 +28,33 @@ module _ (z : Ground) (c : ℕ) (v : View) (p : Place) (a : Action) (f : Found) 
   run_keeps None = refl
   run_keeps (Some call) = begin_keeps call _
 
+  waited_keeps : (b : Bool) (word n : ℕ) → Keeps (cond b (epoch_told z c v p a f word n) (waits_on z c v p a f))
+  waited_keeps true word n = refl
+  waited_keeps false word n = refl
+
+  enters_keeps : (t : Option ℕ) (next : Option Call) → Keeps (enters_for z c v p a f t next)
+  enters_keeps None next = run_keeps next
+  enters_keeps (Some n) next = waited_keeps _ f.word n
+
+  stop_keeps : (b : Bool) (word n : ℕ) → Keeps (cond b (epoch_told z c v p a f word n) (quietly (record v { position = Leaving })))
+  stop_keeps true word n = refl
+  stop_keeps false word n = refl
+
+  waits_keeps : (run : Bool) (t : Option ℕ) → Keeps (waits_at z c v p a f run t)
+  waits_keeps run None = refl
+  waits_keeps true (Some n) = waited_keeps _ f.word n
+  waits_keeps false (Some n) = stop_keeps _ v.polled n
+
+  pub want_keeps : (at : Position) → Keeps (wanted_at z c v p a f at)
+  want_keeps (Calling call) = refl
+  want_keeps _ = refl
+
   pub poll_keeps : (at : Position) (run : Bool) (next : Option Call) → Keeps (poll_at z c v p a f at run next)
-  poll_keeps Entering true next = run_keeps next
+  poll_keeps Entering true next = enters_keeps v.target next
   poll_keeps Entering false next = refl
   poll_keeps Between true next = run_keeps next
   poll_keeps Between false next = refl
+  poll_keeps Waiting run next = waits_keeps run v.target
   poll_keeps _ run next = refl
 
   pub write_keeps : (at : Position) → Keeps (write_at z c v p a f at)

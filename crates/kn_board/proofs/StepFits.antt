@@ -1,22 +1,23 @@
 -- What is left to show of each kind of step.
-use Rattle.std.proofs.Common.{◌≡◌, ℕ, ◌+◌, ◌*◌, ◌<◌, Bool, List, Option, Some, refl, sym, ap, ◌∙◌, subst}
+use Rattle.std.proofs.Common.{◌≡◌, ℕ, ◌+◌, ◌*◌, ◌<◌, Bool, List, Option, Some, inl, inr, refl, sym, ap, ◌∙◌, subst}
 use Rattle.std.proofs.Common.{slice_get}
 use Rattle.kn_base.specs.declared.places.Place.{Place}
-use Rattle.kn_base.specs.declared.places.Place.TheVariants.{Phase, State as StateOf, Local, Global, Frame, Side, Body}
+use Rattle.kn_base.specs.declared.places.Place.TheVariants.{Phase, Want, Pending, State as StateOf, Local, Global, Frame, Side, Body}
 use Rattle.kn_base.proofs.Updates.{upd_same}
 use Rattle.kn_graph.specs.Ground.{Ground}
 use Rattle.kn_rule.specs.declared.steps.Kind.{Kind}
 use Rattle.kn_rule.specs.declared.steps.Kind.TheVariants.{K1, K2, K3, K4, K5, K6}
-use Rattle.kn_rule.specs.declared.steps.Kind.TheVariants.{K7, K8, K9}
+use Rattle.kn_rule.specs.declared.steps.Kind.TheVariants.{K7, K8, K9, K13, K14, K15, K16}
 use Rattle.kn_rule.specs.declared.steps.Action.{Action}
-use Rattle.kn_rule.specs.declared.steps.Action.TheVariants.{Loads, LoadsFor, Stores}
+use Rattle.kn_rule.specs.declared.steps.Action.TheVariants.{Loads, LoadsFor, Stores, Raises}
 use Rattle.kn_rule.specs.Decoding.{frame_of}
 use Rattle.kn_rule.specs.Places.{put}
 use Rattle.kn_rule.specs.Views.{View, State, Open, flattened}
 use Rattle.kn_rule.specs.Steps.{Found, callers, epoch_in}
 use Rattle.kn_rule.specs.Allowed.{MayPoll, MayStoreState, MayWrite, MayLoadBody, MaySet, MayReadGlobal, MaySetGlobal, MayBirth, MayLook}
+use Rattle.kn_rule.specs.Allowed.{MayWant, MayStorePhase, MayLoadState, MayCount}
 use Rattle.kn_board.specs.World.{World, slot_at, view_at, IsSlotOf, StandsFor, lies_at}
-use Rattle.kn_board.proofs.OwnedKept.{poll_keeps, write_keeps, load_keeps, store_keeps, global_keeps, born_keeps, look_keeps}
+use Rattle.kn_board.proofs.OwnedKept.{poll_keeps, write_keeps, load_keeps, store_keeps, global_keeps, born_keeps, look_keeps, want_keeps}
 use Rattle.kn_board.proofs.Sounds.{Fits}
 
 module _ (w : World) (s : State) (h : StandsFor w s) (by : ℕ) (less : by < callers w.heap.sizes) (f : Found) where
@@ -96,3 +97,29 @@ module _ (w : World) (s : State) (h : StandsFor w s) (by : ℕ) (less : by < cal
         pages = λ j l ne. h.pages_are j l (λ e. ne (ap (λ v. (frame_of v).kind) (same_frame m.frame j is) ∙ e));
         hands = same_hands _ (look_keeps z by x (Frame m.frame) Loads f x.position);
       }))
+
+  pub want_fits : (p : Place) (a : Action) → MayWant z by x here p a → FitsAt K13 p a
+  want_fits p a (inl m) =
+      subst (λ q. FitsAt K13 q a) (sym m.place) (subst (λ b. FitsAt K13 Want b) (sym m.act)
+      (record { takes = tt; pages = h.pages_are; hands = same_hands _ (want_keeps z by x Want (Raises (epoch_in x + 1)) f x.position) }))
+  want_fits p a (inr m) =
+      subst (λ q. FitsAt K13 q a) (sym m.place) (subst (λ b. FitsAt K13 Want b) (sym m.act)
+      (record { takes = tt; pages = h.pages_are; hands = same_hands _ (want_keeps z by x Want Loads f x.position) }))
+
+  pub phase_fits : (p : Place) (a : Action) → MayStorePhase z by x here p a → FitsAt K14 p a
+  phase_fits p a m =
+      subst (λ q. FitsAt K14 q a) (sym m.place) (subst (λ b. FitsAt K14 Phase b) (sym m.act)
+      (record { takes = tt; pages = h.pages_are; hands = same_hands _ refl }))
+
+  pub load_state_fits : (p : Place) (a : Action) → MayLoadState z by x here p a → FitsAt K15 p a
+  load_state_fits p a m =
+      subst (λ q. FitsAt K15 q a) (sym m.place) (subst (λ b. FitsAt K15 (StateOf m.mutator) b) (sym m.act)
+      (record { takes = tt; pages = h.pages_are; hands = same_hands _ refl }))
+
+  pub count_fits : (p : Place) (a : Action) → MayCount z by x here p a → FitsAt K16 p a
+  count_fits p a (inl m) =
+      subst (λ q. FitsAt K16 q a) (sym m.place) (subst (λ b. FitsAt K16 Pending b) (sym m.act)
+      (record { takes = tt; pages = h.pages_are; hands = same_hands _ refl }))
+  count_fits p a (inr m) =
+      subst (λ q. FitsAt K16 q a) (sym m.place) (subst (λ b. FitsAt K16 Pending b) (sym m.act)
+      (record { takes = tt; pages = h.pages_are; hands = same_hands _ refl }))

@@ -1,5 +1,6 @@
 -- One step of the board, by what is stored.
-use Rattle.std.proofs.Common.{◌≡◌, ◌≢◌, ℕ, ◌+◌, ◌<◌, ◌≤◌, Bool, true, List, [], ◌∷◌, length, map, Option, Some, None, is_some}
+use Rattle.std.proofs.Common.{◌≡◌, ◌≢◌, ℕ, ◌+◌, ◌<◌, ◌≤◌, ◌⊎◌, inl, inr, Bool, true, List, [], ◌∷◌, length}
+use Rattle.std.proofs.Common.{map, Option, Some, None, is_some}
 use Rattle.std.proofs.Common.{refl, sym, ap, ◌∙◌, subst}
 use Rattle.std.proofs.Common.{slice_set, arith, get_or-set_same, get_or-set_other, length-append}
 use Rattle.kn_base.specs.declared.places.Place.{Place}
@@ -11,16 +12,19 @@ use Rattle.kn_graph.specs.Ground.{Ground}
 use Rattle.kn_graph.specs.Logs.{log_of}
 use Rattle.kn_rule.specs.declared.steps.Kind.{Kind}
 use Rattle.kn_rule.specs.declared.steps.Kind.TheVariants.{K1, K2, K3, K4, K5, K6}
-use Rattle.kn_rule.specs.declared.steps.Kind.TheVariants.{K7, K8, K9, K10, K11, K12}
+use Rattle.kn_rule.specs.declared.steps.Kind.TheVariants.{K7, K8, K9, K10, K11, K12, K13, K14, K15, K16}
 use Rattle.kn_rule.specs.declared.steps.Action.{Action}
+use Rattle.kn_rule.specs.declared.positions.Position.{Position}
+use Rattle.kn_rule.specs.declared.positions.Position.TheVariants.{Calling}
+use Rattle.kn_rule.specs.declared.steps.Action.TheVariants.{Stores}
 use Rattle.kn_rule.specs.Places.{Within, index}
 use Rattle.kn_rule.specs.Views.{View, State}
 use Rattle.kn_rule.specs.Steps.{Step, Found, Outcome, does, found, callers, frame_in, logged, more, word_wanted, word_after}
-use Rattle.kn_rule.specs.Outcomes.{outcome}
-use Rattle.kn_rule.specs.Allowed.{MayBe, MayMake}
+use Rattle.kn_rule.specs.Outcomes.{outcome, wanted_at, count_at}
+use Rattle.kn_rule.specs.Allowed.{MayBe, MayMake, MayWant, MayCount}
 use Rattle.kn_rule.specs.Moves.{view_after}
 use Rattle.kn_rule.specs.Rule.{Rule, fresh}
-use Rattle.kn_keep_heap.proofs.Withins.{steps_lie_within}
+use Rattle.kn_keep_mark.proofs.Withins.{steps_lie_within}
 use Rattle.kn_steps.specs.Made.{Made}
 use Rattle.kn_view.specs.Parts.{Part, said_list, view_with}
 use Rattle.kn_view.specs.Words.{MayLeave}
@@ -48,32 +52,53 @@ lies_or None e = cc
 lies_or (Some page) e = refl
 
 -- one call more
-calls_more : (n c : ℕ) (h : List Entry) (said : Option Entry) → c < n → AreCallsOf n h → IsAtMostACall c (said_list said) →
-    AreCallsOf n (more h (said_list said))
+calls_more : (n c : ℕ) (h : List Entry) (said : Option Entry) → (c < n) ⊎ (said_list said ≡ []) → AreCallsOf n h →
+    IsAtMostACall c (said_list said) → AreCallsOf n (more h (said_list said))
 calls_more n c h None l a m = a
-calls_more n c [] (Some e) l a m = ((subst (λ i. i < n) (sym m.0) l, m.1), tt)
-calls_more n c (x ∷ h) (Some e) l a m = (a.0, calls_more n c h (Some e) l a.1 m)
+calls_more n c h (Some e) (inr l) a m = let x : e ∷ [] ≡ [] = l in absurd (cc)
+calls_more n c [] (Some e) (inl l) a m = ((subst (λ i. i < n) (sym m.0) l, m.1), tt)
+calls_more n c (x ∷ h) (Some e) (inl l) a m = (a.0, calls_more n c h (Some e) (inl l) a.1 m)
 
 longer : (h : List Entry) (said : Option Entry) → said ≢ None → length (more h (said_list said)) ≡ length h + 1
 longer h None n = absurd (n refl)
 longer h (Some e) n = length-append h (e ∷ [])
 
 module _ (z : Ground) (by : ℕ) (v : View) (here : ℕ → Bool) (p : Place) (a : Action) where
-  -- a step of a built kind is a mutator's
-  thread_of : (k : Kind) → MayBe z by v here k p a → by < z.sizes.threads
-  thread_of K1 m = m.thread
-  thread_of K2 m = m.thread
-  thread_of K3 m = m.thread
-  thread_of K4 m = m.thread
-  thread_of K5 m = m.thread
-  thread_of K6 m = m.thread
-  thread_of K7 m = m.thread
-  thread_of K8 m = m.thread
-  thread_of K9 m = m.search.thread
-  thread_of K10 m = m.search.thread
-  thread_of K11 m = m.thread
-  thread_of K12 m = m.thread
-  thread_of _ m = absurd m
+  want_quiet : (f : Found) (at : Position) → (wanted_at z by v p a f at).says ≡ []
+  want_quiet f (Calling call) = refl
+  want_quiet f _ = refl
+
+  count_quiet : (f : Found) (b : Action) → (count_at z by v p a f b).says ≡ []
+  count_quiet f (Stores n) = refl
+  count_quiet f _ = refl
+
+  -- a step of a built kind is a mutator's, or says nothing
+  speaker : (f : Found) (k : Kind) → MayBe z by v here k p a → (by < z.sizes.threads) ⊎ ((outcome z by v p a f k).says ≡ [])
+  speaker f K1 m = inl m.thread
+  speaker f K2 m = inr refl
+  speaker f K3 m = inl m.thread
+  speaker f K4 m = inl m.thread
+  speaker f K5 m = inl m.thread
+  speaker f K6 m = inl m.thread
+  speaker f K7 m = inl m.thread
+  speaker f K8 m = inl m.thread
+  speaker f K9 m = inl m.search.thread
+  speaker f K10 m = inl m.search.thread
+  speaker f K11 m = inl m.thread
+  speaker f K12 m = inl m.thread
+  speaker f K13 m = inr (want_quiet f v.position)
+  speaker f K14 m = inr refl
+  speaker f K15 m = inr refl
+  speaker f K16 m = inr (count_quiet f a)
+  speaker f _ m = absurd m
+
+  want_word : (n : ℕ) → MayWant z by v here p a → MayLeave a n
+  want_word n (inl m) = subst (λ a. MayLeave a n) (sym m.act) tt
+  want_word n (inr m) = subst (λ a. MayLeave a n) (sym m.act) tt
+
+  count_word : (n : ℕ) → MayCount z by v here p a → MayLeave a n
+  count_word n (inl m) = subst (λ a. MayLeave a n) (sym m.act) tt
+  count_word n (inr m) = subst (λ a. MayLeave a n) (sym m.act) tt
 
   -- it leaves a word
   leaves_word : (n : ℕ) (k : Kind) → MayBe z by v here k p a → MayLeave a n
@@ -89,6 +114,10 @@ module _ (z : Ground) (by : ℕ) (v : View) (here : ℕ → Bool) (p : Place) (a
   leaves_word n K10 m = subst (λ a. MayLeave a n) (sym m.word) tt
   leaves_word n K11 m = subst (λ a. MayLeave a n) (sym m.word) tt
   leaves_word n K12 m = subst (λ a. MayLeave a n) (sym m.word) tt
+  leaves_word n K13 m = want_word n m
+  leaves_word n K14 m = subst (λ a. MayLeave a n) (sym m.act) tt
+  leaves_word n K15 m = subst (λ a. MayLeave a n) (sym m.act) tt
+  leaves_word n K16 m = count_word n m
   leaves_word n _ m = absurd m
 
   -- and finds the page that it takes
@@ -178,7 +207,7 @@ module _ (z : Ground) (words : List ℕ) (slots : List (Option FrameView)) (know
       mine = noted.mine (log_of by history)
 
       left : Leaves z by v p a f (outcome z by v p a f k)
-      left = outcome_leaves z by v p a f wide k
+      left = outcome_leaves z by v p a f k
 
       said_by : IsAtMostACall by (said_list said)
       said_by = subst (λ (o : Outcome). IsAtMostACall by o.says) (sym mine) left.1
@@ -198,7 +227,11 @@ module _ (z : Ground) (words : List ℕ) (slots : List (Option FrameView)) (know
       history_is = ap (λ (o : Outcome). more history o.says) mine ∙ ap (λ v. more history (outcome z by v p a f k).says) (sym view_is)
 
       calls_after : AreCallsOf z.sizes.threads h'
-      calls_after = calls_more z.sizes.threads by history said (thread_of z by v (lies_at w) p a k may') kept.calls said_by
+      calls_after = calls_more z.sizes.threads by history said (spoken (speaker z by v (lies_at w) p a f k may')) kept.calls said_by
+        where
+          spoken : (by < z.sizes.threads) ⊎ ((outcome z by v p a f k).says ≡ []) → (by < z.sizes.threads) ⊎ (said_list said ≡ [])
+          spoken (inl l) = inl l
+          spoken (inr e) = inr (ap (λ (o : Outcome). o.says) mine ∙ e)
 
       sound_after : Sound (world_after w by d f)
       sound_after = step_sound w sound.0 s rule stands by less f d may refl lies
@@ -214,8 +247,12 @@ module _ (z : Ground) (words : List ℕ) (slots : List (Option FrameView)) (know
           let m = longer history said some in let most = kept.history_room in omega arith
 
       wide_after : IsWide z.sizes part'
-      wide_after =
-          (ap (λ (o : Outcome). length o.view.seen) mine ∙ left.0.0, ap (λ (o : Outcome). length o.view.refused) mine ∙ left.0.1)
+      wide_after = (
+        ap (λ (o : Outcome). length o.view.seen) mine ∙ (left.0 wide).0,
+        ap (λ (o : Outcome). length o.view.refused) mine ∙ (left.0 wide).1,
+        ap (λ (o : Outcome). length o.view.collecting.counted) mine ∙ (left.0 wide).2,
+        ap (λ (o : Outcome). length o.view.collecting.ended) mine ∙ (left.0 wide).3,
+      )
 
       pub kept_after : (room' : ℕ) → room ≤ room' → Kept z slots (slice_set known by part') holds' h' room'
       kept_after room' l = record {

@@ -9,7 +9,7 @@ use Rattle.kn_graph.specs.declared.calls.Call.{Call}
 use Rattle.kn_graph.specs.Ground.{Ground}
 use Rattle.kn_rule.specs.declared.steps.Kind.{Kind}
 use Rattle.kn_rule.specs.declared.steps.Kind.TheVariants.{K1, K2, K3, K4, K5, K6}
-use Rattle.kn_rule.specs.declared.steps.Kind.TheVariants.{K7, K8, K9, K10, K11, K12}
+use Rattle.kn_rule.specs.declared.steps.Kind.TheVariants.{K7, K8, K9, K10, K11, K12, K13, K14, K15, K16}
 use Rattle.kn_rule.specs.declared.steps.Action.{Action}
 use Rattle.kn_rule.specs.declared.steps.Action.TheVariants.{LoadsFor, Stores, Swaps}
 use Rattle.kn_rule.specs.declared.positions.Position.TheVariants.{Calling}
@@ -61,6 +61,15 @@ module _ (z : Ground) (by : ℕ) (part : Part) (p : Place) (a : Action) (n : ℕ
     pub near : frame < frame_count z.sizes
     pub call : IsRightCall z part.position
 
+  pub record AsksPhase : Type 0 where
+    pub value : ℕ
+    pub act : a ≡ Stores value
+
+  pub record AsksLoadState : Type 0 where
+    pub mutator : ℕ
+    pub place : p ≡ State mutator
+    pub near : mutator < z.sizes.threads
+
   module _ (holds : List Hold) where
     -- where the claim wins, a page lies in the frame's slot, and nobody owns the frame
     pub record AsksClaim (slot : Option FrameView) : Type 0 where
@@ -111,4 +120,8 @@ module _ (z : Ground) (by : ℕ) (part : Part) (p : Place) (a : Action) (n : ℕ
     Asks slot K10 = AsksClaim slot
     Asks slot K11 = AsksHome
     Asks slot K12 = AsksClear
+    Asks slot K13 = Unit {0}
+    Asks slot K14 = AsksPhase
+    Asks slot K15 = AsksLoadState
+    Asks slot K16 = Unit {0}
     Asks slot _ = ⊥

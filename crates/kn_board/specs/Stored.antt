@@ -28,9 +28,10 @@ hold_at holds p = slice_index_or holds p (nobody 0)
 abbrev pub part_at : Ground → List Part → ℕ → Part
 part_at z known c = slice_index_or known c (new_part z)
 
--- a place for each frame in what a caller saw and refused
+-- a place for each frame in what a caller saw and refused, and for each mutator in those counted and those ended
 abbrev pub IsWide : Sizes → Part → Type 0
 IsWide z part = (length part.seen ≡ frame_count z) × (length part.refused ≡ frame_count z)
+    × (length part.counted ≡ z.threads) × (length part.ended ≡ z.threads)
 
 -- there is one hold for each frame, with room for as many spans as the frame has words; what it has of an owned frame is a
 -- free list of the frame

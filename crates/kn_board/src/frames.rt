@@ -23,7 +23,8 @@ use kn_graph::Entry;
 use kn_holds::FrameHold;
 use kn_holds::laws::{cell_law, length_law};
 use kn_layout::Layout;
-use kn_view::{Known, class_of, stored_by, wanted_by};
+use kn_rule::class_of;
+use kn_view::{Known, stored_by, wanted_by};
 
 const KIND: u64 = 1 << 56;
 

@@ -3,13 +3,14 @@ ghost use Rattle.std.specs.Prelude.{◌≡◌, ℕ};
 ghost use Rattle.kn_base.specs.Pages.{FrameView};
 ghost use Rattle.kn_graph.specs.Ground.{IsGoodGround};
 ghost use Rattle.kn_rule.specs.declared.steps.Kind.TheVariants.{K1, K2, K3, K4, K5, K6, K7, K8, K9};
+ghost use Rattle.kn_rule.specs.declared.steps.Kind.TheVariants.{K13, K14, K15, K16};
 ghost use Rattle.kn_rule.specs.Outcomes.{outcome};
 ghost use Rattle.kn_rule.specs.Steps.{found};
 ghost use Rattle.kn_view.specs.Parts.{IsReadable, Makes, ground_of};
-ghost use Rattle.kn_board.specs.Asks.{AsksBirth, AsksFrame, AsksGlobal, AsksPoll, AsksState, AsksWrite};
+ghost use Rattle.kn_board.specs.Asks.{AsksBirth, AsksFrame, AsksGlobal, AsksLoadState, AsksPhase, AsksPoll, AsksState, AsksWrite};
 ghost use Rattle.kn_board.specs.Stored.{IsWide};
 
-use crate::step::{StepFound, address_in, frame_in, local_in, next_of};
+use crate::step::{StepFound, address_in, frame_in, local_in, mutator_in, next_of};
 use kn_base::Sizes;
 use kn_graph::Entry;
 use kn_layout::Layout;
@@ -108,4 +109,44 @@ pub fn looks(sizes: &Sizes, layouts: &[Layout], known: &mut Known, step: StepFou
         Makes z known.old known.new result (λ v. outcome z step.by v step.place step.act (found step.word page) K9) }
 {
     known.looks_at(sizes, layouts, step.by, frame_in(step.place), step.word)
+}
+
+/// A raise of the epoch wanted, or a load of it.
+#[inline(always)]
+pub fn wants(sizes: &Sizes, layouts: &[Layout], known: &mut Known, step: StepFound)
+    ensures { let z = ground_of sizes.now layouts.now in (page : FrameView) →
+        Makes z known.old known.new None (λ v. outcome z step.by v step.place step.act (found step.word page) K13) }
+{
+    known.wants(step.word);
+}
+
+/// A store of the phase.
+#[inline(always)]
+pub fn stores_phase(sizes: &Sizes, layouts: &[Layout], known: &mut Known, step: StepFound)
+    requires wide { IsWide sizes.now known.old }
+    requires asks { AsksPhase (ground_of sizes.now layouts.now) step.by known.old step.place step.act step.word }
+    ensures { let z = ground_of sizes.now layouts.now in (page : FrameView) →
+        Makes z known.old known.new None (λ v. outcome z step.by v step.place step.act (found step.word page) K14) }
+{
+    known.stores_phase(stored_by(step.act));
+}
+
+/// A load of a mutator's state.
+#[inline(always)]
+pub fn loads_state(sizes: &Sizes, layouts: &[Layout], known: &mut Known, step: StepFound)
+    requires wide { IsWide sizes.now known.old }
+    requires asks { AsksLoadState (ground_of sizes.now layouts.now) step.by known.old step.place step.act step.word }
+    ensures { let z = ground_of sizes.now layouts.now in (page : FrameView) →
+        Makes z known.old known.new None (λ v. outcome z step.by v step.place step.act (found step.word page) K15) }
+{
+    known.loads_state(mutator_in(step.place), step.word);
+}
+
+/// The store that begins the marking, or a load of the count of open work.
+#[inline(always)]
+pub fn counts_work(sizes: &Sizes, layouts: &[Layout], known: &mut Known, step: StepFound)
+    ensures { let z = ground_of sizes.now layouts.now in (page : FrameView) →
+        Makes z known.old known.new None (λ v. outcome z step.by v step.place step.act (found step.word page) K16) }
+{
+    known.counts_work(step.act, step.word);
 }

@@ -12,7 +12,10 @@ ghost use Rattle.kn_board.specs.Stored.{HoldsFit, IsWide, PagesFit};
 ghost use Rattle.kn_board.specs.World.{IsPageFound};
 
 use crate::frames::{claims, clears, puts_home};
-use crate::kinds::{bears, goes, loads, looks, polls, reads, stores, writes};
+use crate::kinds::{
+    bears, counts_work, goes, loads, loads_state, looks, polls, reads, stores, stores_phase, wants,
+    writes,
+};
 use crate::step::StepFound;
 use kn_base::{FramePage, Sizes};
 use kn_graph::Entry;
@@ -61,6 +64,22 @@ pub fn notes<P: FramePage>(
         Kind::K11 => puts_home(sizes, layouts, known, holds, step),
         Kind::K12 => {
             clears(sizes, layouts, known, holds, step);
+            None
+        }
+        Kind::K13 => {
+            wants(sizes, layouts, known, step);
+            None
+        }
+        Kind::K14 => {
+            stores_phase(sizes, layouts, known, step);
+            None
+        }
+        Kind::K15 => {
+            loads_state(sizes, layouts, known, step);
+            None
+        }
+        Kind::K16 => {
+            counts_work(sizes, layouts, known, step);
             None
         }
         _ => None,

@@ -12,7 +12,7 @@ use crate::plain::Plain;
 use crate::spans::span_of;
 use kn_base::{FramePage, MOST_CALLS, Sizes};
 use kn_holds::FrameHold;
-use kn_layout::Layout;
+use kn_layout::{Layout, copy_layouts};
 use kn_rule::table_length;
 use kn_view::Known;
 use std::alloc::{AllocError, Global};
@@ -29,16 +29,6 @@ fn in_slots<P: FramePage>(alloc: Global, pages: Vec<P>) -> Result<Vec<Option<P>>
     ensures { IfOk result (λ slots. slots.items ≡ map (λ page. Some page) pages.items) }
 {
     pages.into_iter().map(|page| Some(page)).collect(alloc)
-}
-
-fn copied(alloc: Global, layouts: &[Layout]) -> Result<Vec<Layout>, AllocError>
-    ensures { IfOk result (λ copies. copies.items ≡ layouts.now) }
-{
-    let mut copies = Vec::with_capacity(alloc, layouts.len())?;
-    for layout in layouts {
-        copies.push(layout.copy(alloc)?)?;
-    }
-    Ok(copies)
 }
 
 // What is stored of callers that have made no step.
@@ -79,7 +69,7 @@ impl<P: FramePage> Plain<P> {
         requires whole { AreWhole sizes.now (map P.page pages.items) }
         ensures { IfOk result (λ plain. plain ≡ opened (ground_of sizes.now layouts.now) (map P.page pages.items)) }
     {
-        let copies = copied(alloc, layouts)?;
+        let copies = copy_layouts(alloc, layouts)?;
         let words = zeros(alloc, table_length(sizes))?;
         let slots = in_slots(alloc, pages)?;
         let known = newcomers(alloc, sizes)?;

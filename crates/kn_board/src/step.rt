@@ -1,6 +1,6 @@
 //! A step, and what its place and its action tell.
 ghost use Rattle.std.specs.Prelude.{◌≡◌};
-ghost use Rattle.kn_rule.specs.Steps.{address_in, frame_in, local_in, next_of};
+ghost use Rattle.kn_rule.specs.Steps.{address_in, frame_in, local_in, next_of, state_in};
 
 use kn_base::Place;
 use kn_graph::Call;
@@ -42,6 +42,17 @@ pub fn local_in(place: Place) -> u8
 {
     match place {
         Place::Local(_, r) => r,
+        _ => 0,
+    }
+}
+
+/// The caller whose state the word of a place is.
+#[inline(always)]
+pub fn mutator_in(place: Place) -> u8
+    ensures { result ≡ state_in place }
+{
+    match place {
+        Place::State(i) => i,
         _ => 0,
     }
 }

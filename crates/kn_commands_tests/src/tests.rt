@@ -1,8 +1,6 @@
 use kn_base::{FrameNo, FramePage};
-use kn_board::Board;
 use kn_commands::{Status, exit_of, run_trace, run_words};
 use kn_io::{MemSink, MemSource};
-use kn_page::Page;
 use kn_script::Why;
 use std::alloc::{AllocError, Global};
 use std::process::ExitCode;
@@ -52,6 +50,21 @@ fn traced(
     let status = run_trace(alloc, &mut source, &mut sink).status;
     let text = sink.held().to_vec(alloc)?;
     Ok((status.number(), text))
+}
+
+/// Whether a script in two parts ends with this number, and this text in two parts is written.
+fn ends_with(
+    alloc: Global,
+    script: (&str, &str),
+    wanted: u8,
+    told: (&str, &str),
+) -> Result<bool, AllocError> {
+    let (before, behind) = script;
+    let script = format!(in alloc; "{before}{behind}")?;
+    let (number, text) = traced(alloc, script.as_str(), &[], &[])?;
+    let (first, last) = told;
+    let told = format!(in alloc; "{first}{last}")?;
+    Ok(number == wanted && text.as_slice() == told.as_bytes())
 }
 
 /// So many pieces, one behind another.
@@ -107,40 +120,37 @@ fn scripts_are_traced(rt: HostRuntime) -> Result<(), Fail> {
         (SIZES, "", "thread 0\nok\nok\nok\nfull\ncalls 4\n"),
     ];
     for (before, calls, wanted) in table {
-        let script = format!(in rt.alloc(); "{before}{calls}")?;
-        let report = format!(in rt.alloc(); "{wanted}{TAIL}")?;
-        let (number, text) = traced(rt.alloc(), script.as_str(), &[], &[])?;
-        assert!(rt;
-            number == 0 && text.as_slice() == report.as_bytes(),
-            "{calls}"
-        );
+        assert!(rt; ends_with(rt.alloc(), (before, calls), 0, (wanted, TAIL))?);
     }
     Ok(())
 }
 
-/// The word of a frame, and the free words of its page.
-fn frame_left(board: &Board<Page>, number: u16) -> Option<(u64, u32)> {
+/// The word of a frame behind a script's run, and the free words of the frame's page.
+fn frame_left(alloc: Global, script: &str, number: u16) -> Result<Option<(u64, u32)>, AllocError> {
+    let mut source = MemSource::open(alloc, script.as_bytes(), 64, &[])?;
+    let mut sink = MemSink::open(alloc, 1000, 64, &[])?;
+    let Some(board) = run_trace(alloc, &mut source, &mut sink).board else {
+        return Ok(None);
+    };
     let frame = FrameNo(number);
-    let page = board.page(frame)?;
-    Some((board.frame_word(frame)?, page.free_words()))
+    let (Some(word), Some(page)) = (board.frame_word(frame), board.page(frame)) else {
+        return Ok(None);
+    };
+    Ok(Some((word, page.free_words())))
 }
 
 #[test]
 fn frames_are_left(rt: HostRuntime) -> Result<(), Fail> {
-    let mut source = MemSource::open(rt.alloc(), SCRIPT.as_bytes(), 64, &[])?;
-    let mut sink = MemSink::open(rt.alloc(), 1000, 64, &[])?;
-    let board = run_trace(rt.alloc(), &mut source, &mut sink)
-        .board
-        .ok_or("no board")?;
-    assert!(rt; frame_left(&board, 0) == Some((144_118_486_610_739_200, 61)));
-    let mut source = MemSource::open(rt.alloc(), SIZES.as_bytes(), 64, &[])?;
-    let mut sink = MemSink::open(rt.alloc(), 1000, 64, &[])?;
-    let board = run_trace(rt.alloc(), &mut source, &mut sink)
-        .board
-        .ok_or("no board")?;
-    assert!(rt; frame_left(&board, 0) == Some((216_209_065_997_500_416, 0)));
-    assert!(rt; frame_left(&board, 1) == Some((216_210_165_509_128_192, 63)));
-    assert!(rt; frame_left(&board, 2) == Some((216_210_165_509_128_192, 0)));
+    let table = [
+        (SCRIPT, 0, (144_118_486_610_739_200, 61)),
+        (SIZES, 0, (216_209_065_997_500_416, 0)),
+        (SIZES, 1, (216_210_165_509_128_192, 63)),
+        (SIZES, 2, (216_210_165_509_128_192, 0)),
+    ];
+    for (script, number, wanted) in table {
+        let left = frame_left(rt.alloc(), script, number)?;
+        assert!(rt; left == Some(wanted));
+    }
     Ok(())
 }
 
@@ -176,23 +186,28 @@ fn scripts_are_refused(rt: HostRuntime) -> Result<(), Fail> {
         ("", longer.as_str(), "line 1 long\n"),
     ];
     for (before, behind, line) in table {
-        let script = format!(in rt.alloc(); "{before}{behind}")?;
-        let (number, text) = traced(rt.alloc(), script.as_str(), &[], &[])?;
-        assert!(rt; number == 2 && text.as_slice() == line.as_bytes(), "{line}");
+        assert!(rt; ends_with(rt.alloc(), (before, behind), 2, (line, ""))?);
     }
     Ok(())
 }
 
+/// One thread, which makes an object: it goes in by two steps, and polls for its call; it looks at
+/// the frame, claims it, takes its page, clears three words, bears the object and stores the local;
+/// the next poll answers the second call; the page and the frame go home, and the state is stored.
 #[test]
-fn turns_are_spent(rt: HostRuntime) -> Result<(), Fail> {
-    let table = [(1, 3), (14, 3), (15, 0), (16, 0)];
-    for (turns, wanted) in table {
+fn a_run_is_of_single_steps(rt: HostRuntime) -> Result<(), Fail> {
+    let report = format!(in rt.alloc(); "thread 0\nok\nyes\ncalls 2\n{TAIL}")?;
+    for (turns, wanted) in [(1, 3), (14, 3), (15, 0), (16, 0)] {
         let script = format!(in rt.alloc();
             "heap 1 64 0 64 0 2\nnames 0 0 0 0\nlayout fields ref int\nthreads 1\nturns {turns}\nthread 0\nnew 0 0\nsame 0 0\n"
         )?;
         let (number, text) = traced(rt.alloc(), script.as_str(), &[], &[])?;
-        let is_told = text.as_slice() == b"turns spent\n".as_slice();
-        assert!(rt; number == wanted && is_told == (wanted == 3));
+        let told = if wanted == 3 {
+            "turns spent\n"
+        } else {
+            report.as_str()
+        };
+        assert!(rt; number == wanted && text.as_slice() == told.as_bytes());
     }
     Ok(())
 }
@@ -219,6 +234,14 @@ fn faults_of_devices_are_answered(rt: HostRuntime) -> Result<(), Fail> {
     Ok(())
 }
 
+/// The exit number of a call with these words, and whether it wrote the usage line.
+fn judged(alloc: Global, words: &[&str]) -> Result<(u8, bool), AllocError> {
+    let mut source = MemSource::open(alloc, SCRIPT.as_bytes(), 64, &[])?;
+    let mut sink = MemSink::open(alloc, 1000, 64, &[])?;
+    let status = run_words(alloc, words, &mut source, &mut sink).status;
+    Ok((status.number(), sink.held() == USAGE.as_bytes()))
+}
+
 #[test]
 fn words_are_judged(rt: HostRuntime) -> Result<(), Fail> {
     let forms: [(&[&str], u8); 10] = [
@@ -234,11 +257,8 @@ fn words_are_judged(rt: HostRuntime) -> Result<(), Fail> {
         (&["--", "--", "trace"], 1),
     ];
     for (words, number) in forms {
-        let mut source = MemSource::open(rt.alloc(), SCRIPT.as_bytes(), 64, &[])?;
-        let mut sink = MemSink::open(rt.alloc(), 1000, 64, &[])?;
-        let status = run_words(rt.alloc(), words, &mut source, &mut sink).status;
-        let is_usage = sink.held() == USAGE.as_bytes();
-        assert!(rt; status.number() == number && is_usage == (number == 1));
+        let (found, is_usage) = judged(rt.alloc(), words)?;
+        assert!(rt; found == number && is_usage == (number == 1));
     }
     Ok(())
 }

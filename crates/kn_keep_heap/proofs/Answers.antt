@@ -31,6 +31,7 @@ use Rattle.kn_rule.specs.Rule.{Represents, RuleOf}
 use Rattle.kn_keep_heap.specs.Answered.{IsBehindAnswer}
 use Rattle.kn_keep_heap.proofs.Positions.{formed_at, at_end_at, stated_at, owners_at, cleared_at, apart_at, taken_in_at, told_answered}
 use Rattle.kn_keep_heap.proofs.Positions.{polled_answered}
+use Rattle.kn_keep_heap.proofs.Wants.{stopped_at, wanted_said}
 
 -- the epoch of the last poll is the current one
 same_pauses : (e e' : ℕ) (c c' : Code) → e ≡ e' → c ≡ c' → pauses (record { epoch = e; code = c }) ≡ pauses (record { epoch = e'; code = c' })
@@ -163,6 +164,9 @@ module _ (z : Ground) (g : Graph) (v : Views) (h : List Entry) (told : Told z g 
           polling = polled_answered z v.position by q call reply address epoch is g'.paused (word Phase)
               (word Want) v.polled v.target v.log a.polling;
           owners = owners_at z v.position by q (word Phase) v.own a.owners (λ _. in_behind q b);
+          stopped = stopped_at z v.position by q (word Phase) (λ c. (v.rest c).collecting.counted) a.stopped
+              (λ _ _. subst (λ p. IsInOrLeaving p) (sym is) tt);
+          wanted = wanted_said z (word Phase) (word Want) (v.rest z.sizes.threads).collecting.wanted v.target v.log by entry_now a.wanted;
           framed = a.framed;
           housed = a.housed;
           handed = a.handed;

@@ -1,7 +1,7 @@
 -- The clauses on frames, where a frame is claimed, and where it is given back.
-use Rattle.std.proofs.Common.{◌≡◌, ◌≢◌, ℕ, ◌<◌, ◌⊎◌, inl, inr, Bool, true, false, eqb, ◌&&◌, List, [], ◌∷◌, Option, Some}
+use Rattle.std.proofs.Common.{◌≡◌, ◌≢◌, ℕ, ◌<◌, ◌⊎◌, inl, inr, List, [], ◌∷◌, Option, Some}
 use Rattle.std.proofs.Common.{None, refl, sym, subst}
-use Rattle.std.proofs.Common.{ap, ◌∙◌, arith, eqb-true}
+use Rattle.std.proofs.Common.{ap, ◌∙◌, arith}
 use Rattle.kn_base.specs.declared.numbers.Span.{Span}
 use Rattle.kn_base.specs.declared.heap.Sizes.{Sizes}
 use Rattle.kn_base.specs.declared.kinds.FrameKind.TheVariants as frames
@@ -18,7 +18,7 @@ use Rattle.kn_rule.specs.declared.parts.Taken.{Taken}
 use Rattle.kn_rule.specs.Decoding.{frame_of, PacksFrame}
 use Rattle.kn_rule.specs.FrameSpans.{frame_span}
 use Rattle.kn_rule.specs.Views.{Open, Sweep}
-use Rattle.kn_rule.specs.Requests.{InArea, IsCellOf, is_whole}
+use Rattle.kn_rule.specs.Requests.{InArea, IsCellOf}
 use Rattle.kn_rule.specs.Steps.{callers}
 use Rattle.kn_rule.specs.FrameClauses.{Framed, IsFilled, IsTakenWord, AreTheFree, HomePage, Housed, Handed, Classed, Placed, IsNotSwept, TakenIn}
 use Rattle.kn_rule.specs.CallerClauses.{Owners, MayOwn}
@@ -185,19 +185,6 @@ none_in_whole z side frame born shape free r e n l i =
     let f = first_word (shape n) in let i0 = i.0 in let i1 = i.1 in
     let w : HasWord frame (shape n).address = (omega arith, omega arith) in
     ((r (shape n).address).0 (subst (λ x. Covers x (shape n).address) (sym e) (inl w))).1 (inl (n, l, f))
-
-both_true : (a b : Bool) → (a && b) ≡ true → (a ≡ true) × (b ≡ true)
-both_true true true e = (refl, refl)
-both_true true false e = absurd (cc)
-both_true false b e = absurd (cc)
-
-pub whole_is : (frame : Span) (free : List Span) → is_whole frame free ≡ true → free ≡ frame ∷ []
-whole_is frame [] e = absurd (cc)
-whole_is frame (x ∷ []) e =
-    let h = both_true (eqb x.start frame.start) (eqb x.len frame.len) e in
-    let a = eqb-true x.start frame.start h.0 in let b = eqb-true x.len frame.len h.1 in
-    λ t. record { start = a t; len = b t } ∷ []
-whole_is frame (x ∷ y ∷ rest) e = absurd (cc)
 
 -- nothing is asked of cells where a frame has no class
 pub placed_none : (frame cell : Span) → IsCellOf 0 frame cell

@@ -29,12 +29,13 @@ use Rattle.kn_rule.specs.Moves.{stepped_by, IsPageOf}
 use Rattle.kn_rule.specs.FrameClauses.{IsFilled, AreTheFree, HomePage}
 use Rattle.kn_rule.specs.Rule.{Rule, RuleOf}
 use Rattle.kn_rule.proofs.Decodings.{frame_packed, frame_packs}
+use Rattle.kn_rule.proofs.WholeFrames.{whole_is}
 use Rattle.kn_keep_heap.specs.Answered.{staying, Stays}
 use Rattle.kn_keep_heap.proofs.Parts.{views_moved, local_same, own_put, taken_same, position_same, header_same, log_same}
 use Rattle.kn_keep_heap.proofs.ReadLaws.{few}
 use Rattle.kn_keep_heap.proofs.ThenAnswer.{then_full}
 use Rattle.kn_keep_heap.proofs.FrameMoves.{framed_home, owners_home, taken_in_moved, handed_home, free_in_hand, housed_home, classed_at, placed_at}
-use Rattle.kn_keep_heap.proofs.FrameMoves.{whole_is, placed_none}
+use Rattle.kn_keep_heap.proofs.FrameMoves.{placed_none}
 
 module _ (z : Ground) (s : State) (by : ℕ) (less : by < z.sizes.threads) (g : Graph) (rule : RuleOf z g s.word s.page (views_of s.caller) s.history)
     (f : Found) (k : ℕ) (hold : Open) (owned : owns (s.caller by) k ≡ Some hold) (near : k < frame_count z.sizes) (none : (s.caller by).taken ≡ None)
@@ -171,6 +172,8 @@ module _ (z : Ground) (s : State) (by : ℕ) (less : by < z.sizes.threads) (g : 
           at_end = rule.stands.at_end;
           polling = rule.stands.polling;
           owners = owners_home z V.own by k (s.word Phase) V.position rule.stands.owners;
+          stopped = rule.stands.stopped;
+          wanted = rule.stands.wanted;
           framed = framed_home (callers z.sizes) (frame_count z.sizes) word V.own rule.stands.framed by k new_word n near
               (frame_packs new (in_range _ _)) hold owned
               (λ e. not_owned _ _ (ap (λ (v : FrameWord). v.kind) (sym back) ∙ e));

@@ -13,10 +13,11 @@ use Rattle.kn_rule.specs.Views.{View, Views, State, Open, views_of, owns}
 use Rattle.kn_rule.specs.Steps.{callers}
 use Rattle.kn_rule.specs.HistoryClauses.{under_way, births_under_way, IsRightCall}
 use Rattle.kn_rule.specs.ObjectClauses.{IsReadAt, IsCleared, IsWriting, IsValueDue, IsAskedBy}
-use Rattle.kn_rule.specs.CallerClauses.{state_number, IsIn, IsBusy, IsInOrLeaving, IsResting, MayOwn, Owners}
+use Rattle.kn_rule.specs.CallerClauses.{state_number, IsIn, IsBusy, IsInOrLeaving, IsResting, MayOwn, Owners, AtEnd}
 use Rattle.kn_rule.specs.Rule.{RuleOf}
 use Rattle.kn_keep_heap.specs.Answered.{IsIdle}
 use Rattle.kn_keep_heap.proofs.Positions.{formed_at, at_end_at, cleared_at, apart_at, taken_in_at, polled_at, told_at}
+use Rattle.kn_keep_heap.proofs.Wants.{stopped_at}
 use Rattle.kn_keep_heap.proofs.Parts.{views_moved, local_same, own_same, taken_same, position_put, header_same, log_same}
 use Rattle.kn_keep_heap.proofs.Locals.{locals_moved}
 
@@ -55,27 +56,27 @@ idle_due : (q : Position) (local : ℕ → ℕ) → IsIdle q → IsValueDue q lo
 idle_due (Writing r w n) local i = absurd i
 idle_due _ local i = tt
 
-module _ (z : Ground) (s : State) (by : ℕ) (less : by < z.sizes.threads) (g : Graph) (rule : RuleOf z g s.word s.page
+module _ (z : Ground) (s : State) (by : ℕ) (near : by < callers z.sizes) (g : Graph) (rule : RuleOf z g s.word s.page
     (views_of s.caller) s.history) where
   abbrev V : Views
   V = views_of s.caller
 
   -- a caller whose position asks for no cell has none
-  pub none_asked : (q : Position) → (s.caller by).position ≡ q → ((t : Taken) → ¬ IsAskedBy z q t) → (s.caller by).taken ≡ None
-  none_asked q is not = at (s.caller by).taken refl
+  pub none_taken : (q : Position) → (s.caller by).position ≡ q → ((t : Taken) → ¬ IsAskedBy z q t) → (s.caller by).taken ≡ None
+  none_taken q is not = at (s.caller by).taken refl
     where
       at : (x : Option Taken) → (s.caller by).taken ≡ x → x ≡ None
       at None e = refl
-      at (Some t) e = absurd (not t (subst (λ p. IsAskedBy z p t) is (rule.stands.apart.asked by t (omega arith) e)))
+      at (Some t) e = absurd (not t (subst (λ p. IsAskedBy z p t) is (rule.stands.apart.asked by t near e)))
 
-  -- an idle caller that has not ended stores its state and stands elsewhere, idle and not in
-  pub idle_moved : (q p : Position) (n : ℕ) → (s.caller by).position ≡ q → IsIdle q → q ≢ Ended → IsIdle p → ¬ IsIn p →
-      state_number p ≡ n →
-      Owners z (s.word Phase) (upd V.position by p) V.own →
+  -- an idle caller stores its state and stands elsewhere, idle and not in, and leaving only where it was in or leaving
+  pub stands_by : (q p : Position) (n : ℕ) → (s.caller by).position ≡ q → IsIdle q → IsIdle p → ¬ IsIn p → state_number p ≡ n →
+      AtEnd z (upd V.position by p) (λ c. (V.rest c).collecting.ended) → (z.sizes.threads ≤ by → IsResting p) →
+      Owners z (s.word Phase) (upd V.position by p) V.own → (IsInOrLeaving p → IsInOrLeaving q) →
       RuleOf z g (put s.word (StateOf by) n) s.page (views_of (upd s.caller by (record (s.caller by) { position = p }))) s.history
-  idle_moved q p n at idle going idle' out state owners =
+  stands_by q p n at idle idle' out state at_end rests owners stays =
       let u : View = record (s.caller by) { position = p } in
-      let none = none_asked q at (not_asking z q idle) in
+      let none = none_taken q at (not_asking z q idle) in
       let target = (s.caller by).target in
       subst (λ W. RuleOf z g (put s.word (StateOf by) n) s.page W s.history)
       (sym (views_moved s.caller by u refl (position_put s.caller by u) (local_same s.caller by u refl) (header_same s.caller by u refl)
@@ -103,13 +104,16 @@ module _ (z : Ground) (s : State) (by : ℕ) (less : by < z.sizes.threads) (g : 
           stated = record {
             each = λ c l. upd_case2 (λ k w x. k ≤ z.sizes.threads → w ≡ state_number x) (λ c. s.word (StateOf c)) V.position by n p (λ _. sym state) c
                 (λ _ l. rule.stands.stated.each c l) l;
-            resting = λ c l m. upd_case (λ k x. z.sizes.threads ≤ k → IsResting x) V.position by p (λ l. absurd (omega arith)) c
+            resting = λ c l m. upd_case (λ k x. z.sizes.threads ≤ k → IsResting x) V.position by p rests c
                 (λ _ l. rule.stands.stated.resting c l m) l;
           };
-          at_end = at_end_at z V.position by p (λ c. (V.rest c).collecting.ended) rule.stands.at_end less (λ e. going (sym at ∙ e));
+          at_end = at_end;
           polling = polled_at z V.position by p g.paused (s.word Phase) (s.word Want) V.polled V.target V.log rule.stands.polling
               (λ h. absurd (out h)) (λ h. absurd (out (busy_in p h)));
           owners = owners;
+          stopped = stopped_at z V.position by p (s.word Phase) (λ c. (V.rest c).collecting.counted) rule.stands.stopped
+              (λ _ h. subst (λ x. IsInOrLeaving x) (sym at) (stays h));
+          wanted = rule.stands.wanted;
           framed = rule.stands.framed;
           housed = rule.stands.housed;
           handed = rule.stands.handed;
@@ -123,16 +127,34 @@ module _ (z : Ground) (s : State) (by : ℕ) (less : by < z.sizes.threads) (g : 
       busy_in Waiting h = absurd h
       busy_in _ h = h
 
+module _ (z : Ground) (s : State) (by : ℕ) (less : by < z.sizes.threads) (g : Graph) (rule : RuleOf z g s.word s.page
+    (views_of s.caller) s.history) where
+  abbrev U : Views
+  U = views_of s.caller
+
+  pub none_asked : (q : Position) → (s.caller by).position ≡ q → ((t : Taken) → ¬ IsAskedBy z q t) → (s.caller by).taken ≡ None
+  none_asked = none_taken z s by (omega (arith, less)) g rule
+
+  -- a mutator with nothing under way that has not ended does so
+  pub idle_moved : (q p : Position) (n : ℕ) → (s.caller by).position ≡ q → IsIdle q → q ≢ Ended → IsIdle p → ¬ IsIn p →
+      state_number p ≡ n →
+      Owners z (s.word Phase) (upd U.position by p) U.own → (IsInOrLeaving p → IsInOrLeaving q) →
+      RuleOf z g (put s.word (StateOf by) n) s.page (views_of (upd s.caller by (record (s.caller by) { position = p }))) s.history
+  idle_moved q p n at idle going idle' out state owners stays =
+      stands_by z s by (omega (arith, less)) g rule q p n at idle idle' out state
+      (at_end_at z U.position by p (λ c. (U.rest c).collecting.ended) rule.stands.at_end less (λ e. going (sym at ∙ e)))
+      (λ l. absurd (omega (arith, less, l))) owners stays
+
   -- where a caller that owns no frame stands elsewhere
-  pub owners_gone : (p : Position) → ((j : ℕ) → owns (s.caller by) j ≡ None) → Owners z (s.word Phase) (upd V.position by p) V.own
+  pub owners_gone : (p : Position) → ((j : ℕ) → owns (s.caller by) j ≡ None) → Owners z (s.word Phase) (upd U.position by p) U.own
   owners_gone p none = record { each = λ c j o l e. at c j o l e (rule.stands.owners.each c j o l e) }
     where
-      at : (c j : ℕ) (o : Open) → c < callers z.sizes → V.own c j ≡ Some o → MayOwn z (s.word Phase) V.position c →
-          MayOwn z (s.word Phase) (upd V.position by p) c
+      at : (c j : ℕ) (o : Open) → c < callers z.sizes → U.own c j ≡ Some o → MayOwn z (s.word Phase) U.position c →
+          MayOwn z (s.word Phase) (upd U.position by p) c
       at c j o l e (inl h) =
           inl (
             h.0,
-            upd_case (λ k x. V.own k j ≡ Some o → IsInOrLeaving x) V.position by p
+            upd_case (λ k x. U.own k j ≡ Some o → IsInOrLeaving x) U.position by p
                 (λ e. let i : Option.None ≡ Some o = sym (none j) ∙ e in absurd (cc)) c (λ ne e. h.1) e,
           )
       at c j o l e (inr h) = inr h
@@ -145,6 +167,6 @@ module _ (z : Ground) (s : State) (by : ℕ) (less : by < z.sizes.threads) (g : 
       by_case None e = refl
       by_case (Some o) e = absurd (no_owner (rule.stands.owners.each by j o (omega arith) e))
         where
-          no_owner : MayOwn z (s.word Phase) V.position by → ⊥
+          no_owner : MayOwn z (s.word Phase) U.position by → ⊥
           no_owner (inl h) = out (subst (λ x. IsInOrLeaving x) at h.1)
           no_owner (inr h) = let e = h.0 in omega arith

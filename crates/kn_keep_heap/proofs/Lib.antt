@@ -5,6 +5,7 @@ pub mod Locals
 pub mod FreeSpans
 pub mod Owns
 pub mod Positions
+pub mod Wants
 pub mod Answers
 pub mod Values
 pub mod Fields
@@ -23,6 +24,7 @@ pub mod FrameMoves
 pub mod ThenAnswer
 pub mod SearchLaws
 pub mod HomeLaw
+pub mod EpochLaw
 pub mod PollLaws
+pub mod EndLaw
 pub mod Keeps
-pub mod Withins

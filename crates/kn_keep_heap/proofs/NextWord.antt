@@ -77,6 +77,8 @@ module _ (z : Ground) (s : State) (by : ℕ) (less : by < z.sizes.threads) (g : 
                 at_end = rule.stands.at_end;
                 polling = rule.stands.polling;
                 owners = rule.stands.owners;
+                stopped = rule.stands.stopped;
+                wanted = rule.stands.wanted;
                 framed = rule.stands.framed;
                 housed = rule.stands.housed;
                 handed = handed_more z g.born (shapes g) V.position V.taken by t has (t.cleared + 1) (omega arith)

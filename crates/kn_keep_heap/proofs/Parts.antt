@@ -73,6 +73,9 @@ module _ (caller : ℕ → View) (by : ℕ) (v : View) where
   pub polled_same : v.polled ≡ (caller by).polled → ◌≡◌ {A = ℕ → ℕ} (λ c. (upd caller by v c).polled) (λ c. (caller c).polled)
   polled_same = part_same (λ (x : View). x.polled) caller by v
 
+  pub target_put : ◌≡◌ {A = ℕ → Option ℕ} (λ c. (upd caller by v c).target) (upd (λ c. (caller c).target) by v.target)
+  target_put = part_upd (λ (x : View). x.target) caller by v
+
   pub target_same : v.target ≡ (caller by).target → ◌≡◌ {A = ℕ → Option ℕ} (λ c. (upd caller by v c).target) (λ c. (caller c).target)
   target_same = part_same (λ (x : View). x.target) caller by v
 

@@ -1,6 +1,6 @@
 -- The laws of a poll and of a store of a mutator's state.
-use Rattle.std.proofs.Common.{◌≡◌, ℕ, ◌+◌, ◌<◌, ◌≤◌, inl, inr, Bool, true, false, cond, eqb, List, length, Option, Some, None}
-use Rattle.std.proofs.Common.{slice_index, refl}
+use Rattle.std.proofs.Common.{◌≡◌, ℕ, ◌+◌, ◌<◌, ◌≤◌, inl, inr, Bool, true, false, cond, eqb, leb, List, length, Option, Some, None}
+use Rattle.std.proofs.Common.{slice_index, refl, ◌≢◌, leb-true}
 use Rattle.std.proofs.Common.{sym, subst, ap, ◌∙◌, arith}
 use Rattle.std.proofs.lemmas.Bool.Decides.{eqb_tells}
 use Rattle.kn_base.specs.declared.places.Place.TheVariants.{Phase, State as StateOf, Local, Body}
@@ -23,19 +23,19 @@ use Rattle.kn_graph.specs.Logs.{calls_of}
 use Rattle.kn_rule.specs.declared.steps.Kind.TheVariants.{K1, K2}
 use Rattle.kn_rule.specs.declared.steps.Action.TheVariants.{LoadsFor, Stores}
 use Rattle.kn_rule.specs.declared.positions.Position.{Position}
-use Rattle.kn_rule.specs.declared.positions.Position.TheVariants.{Out, Entering, Between, Calling, Leaving, Ended}
+use Rattle.kn_rule.specs.declared.positions.Position.TheVariants.{Out, Entering, Between, Calling, Waiting, Leaving, Ended}
 use Rattle.kn_rule.specs.Decoding.{phase_of}
-use Rattle.kn_rule.specs.Phases.{is_run}
+use Rattle.kn_rule.specs.Phases.{is_run, pauses, last_done}
 use Rattle.kn_rule.specs.Places.{put}
 use Rattle.kn_rule.specs.Views.{View, Views, State, views_of, local_of}
 use Rattle.kn_rule.specs.Requests.{field_of}
 use Rattle.kn_rule.specs.Steps.{Found, does, quietly, epoch_in}
-use Rattle.kn_rule.specs.Outcomes.{position_of, view_answer, begin_with, poll_run, poll_at, with_call}
-use Rattle.kn_rule.specs.Allowed.{MayBegin, MayNext, MayPollAt, MayGo}
+use Rattle.kn_rule.specs.Outcomes.{position_of, view_answer, begin_with, poll_run, poll_at, with_call, epoch_told, waits_on, enters_for, waits_at}
+use Rattle.kn_rule.specs.Allowed.{MayBegin, MayNext, MayEnterFor, MayPollAt, MayGo}
 use Rattle.kn_rule.specs.Moves.{stepped_by}
 use Rattle.kn_rule.specs.HistoryClauses.{under_way, births_under_way, IsRightCall, Told}
 use Rattle.kn_rule.specs.ObjectClauses.{IsReadAt, IsReadFor, IsCleared, IsWriting, IsValueDue, address_of}
-use Rattle.kn_rule.specs.CallerClauses.{state_number, IsSince, IsIn, IsBusy, IsInOrLeaving}
+use Rattle.kn_rule.specs.CallerClauses.{state_number, IsSince, IsIn, IsBusy, IsInOrLeaving, Stopped}
 use Rattle.kn_rule.specs.Rule.{Rule, RuleOf}
 use Rattle.kn_keep_heap.specs.Answered.{IsIdle}
 use Rattle.kn_keep_heap.proofs.Changed.{some_is}
@@ -44,6 +44,8 @@ use Rattle.kn_keep_heap.proofs.Parts.{births_put, rest_same, width_same}
 use Rattle.kn_keep_heap.proofs.Loads.{put_same}
 use Rattle.kn_keep_heap.proofs.Locals.{locals_moved}
 use Rattle.kn_keep_heap.proofs.Positions.{formed_at, at_end_at, stated_at, owners_at, cleared_at, apart_at, taken_in_at}
+use Rattle.kn_keep_heap.proofs.Wants.{stopped_run, stopped_at}
+use Rattle.kn_keep_heap.proofs.EpochLaw.{told_rule}
 use Rattle.kn_keep_heap.proofs.Idle.{idle_calls, idle_births, not_writing, not_asking, none_asked, idle_moved, owners_gone, none_out}
 use Rattle.kn_keep_heap.proofs.Values.{same_told, positive, below_sixteen}
 use Rattle.kn_keep_heap.proofs.ReadLaws.{snd}
@@ -58,6 +60,10 @@ run_since e codes.Weak h = inl (refl, refl)
 run_since e codes.StopB h = absurd (cc)
 run_since e codes.Prep h = absurd (cc)
 run_since e codes.Sweep h = inl (refl, refl)
+
+pub in_leaves : (q : Position) → IsIn q → IsInOrLeaving q
+in_leaves Leaving h = absurd h
+in_leaves _ h = h
 
 nil_at : (w : ℕ) (reply : Reply) → cond (eqb w 0) (Option.Some replies.Nil) None ≡ Some reply → (w ≡ 0) × (replies.Nil ≡ reply)
 nil_at w reply e = by (eqb_tells w 0)
@@ -117,8 +123,9 @@ module _ (z : Ground) (s : State) (by : ℕ) (less : by < z.sizes.threads) (g : 
       nil_answer t (λ n. where_int z by g (field_kind z (shapes g n) i) (answers (replies.Int ((g.object n).number i)) g)) reply fits.0 e
   view_answers _ reply fits e = let h : Option.None ≡ Some reply = e in absurd (cc)
 
-  -- a poll of a run phase, by an idle mutator with the state 1 that wants no epoch
-  module _ (q : Position) (at : (s.caller by).position ≡ q) (idle : IsIdle q) (state : state_number q ≡ 1) (target : (s.caller by).target ≡ None)
+  -- a poll of a run phase, by an idle mutator with the state 1 and this target
+  module _ (q : Position) (at : (s.caller by).position ≡ q) (idle : IsIdle q) (state : state_number q ≡ 1) (t : Option ℕ)
+      (target : (s.caller by).target ≡ t)
       (f : Found) (found : s.word Phase ≡ f.word) (run : is_run (phase_of f.word).code ≡ true) where
     no_cell : (s.caller by).taken ≡ None
     no_cell = none_asked z s by less g rule q at (not_asking z q idle)
@@ -144,7 +151,8 @@ module _ (z : Ground) (s : State) (by : ℕ) (less : by < z.sizes.threads) (g : 
     module _ (p : Position) (header : Option ℕ) (seen : List (Option ℕ)) (refused : List Bool) (calls births : ℕ)
         (right : IsRightCall z p) (state' : state_number p ≡ 1) (own : IsInOrLeaving p) (due : IsValueDue p (V.local by))
         (read : IsReadAt (shapes g) (g.local by) p header) (clear : IsCleared z (λ b. s.word (Body b)) (V.local by) p None)
-        (calls_are : under_way p None + V.calls by ≡ calls) (births_are : births_under_way p + V.births by ≡ births)
+        (calls_are : under_way p t + V.calls by ≡ calls + under_way Out t) (free : IsBusy p → t ≡ None)
+        (births_are : births_under_way p + V.births by ≡ births)
         (calls_fit : calls ≤ slice_index z.sizes.calls by) (births_fit : births ≤ slice_index z.sizes.births by) where
       poll_told : Told z g s.history V.log (upd V.position by p) V.target (upd V.calls by calls) (upd V.births by births)
       poll_told = record {
@@ -153,12 +161,12 @@ module _ (z : Ground) (s : State) (by : ℕ) (less : by < z.sizes.threads) (g : 
         calls_are = λ c l. upd_case2 (λ k x n. k < z.sizes.threads →
             length (calls_of (V.log k)) + under_way x (V.target k) ≡ n) V.position V.calls by p calls
             (λ l.
-            let old : length (calls_of (V.log by)) + under_way q None ≡ V.calls by =
+            let old : length (calls_of (V.log by)) + under_way q t ≡ V.calls by =
             subst (λ t. length (calls_of (V.log by)) + under_way q t ≡ V.calls by) target
             (subst (λ x. length (calls_of (V.log by)) + under_way x (V.target by) ≡ V.calls by) at (rule.told.calls_are by l)) in
-            let none = idle_calls q None idle in
-            let new : under_way p (V.target by) ≡ under_way p None = ap (under_way p) target in
-            omega (arith, old, none, new, calls_are)) c (λ _ l. rule.told.calls_are c l) l;
+            let due = idle_calls q t idle in
+            let new : under_way p (V.target by) ≡ under_way p t = ap (under_way p) target in
+            omega (arith, old, due, new, calls_are)) c (λ _ l. rule.told.calls_are c l) l;
         births_are = λ c l. upd_case2 (λ k x n. k < z.sizes.threads →
             births_among (calls_of (V.log k)) + births_under_way x ≡ n) V.position V.births by p births
             (λ l.
@@ -217,10 +225,13 @@ module _ (z : Ground) (s : State) (by : ℕ) (less : by < z.sizes.threads) (g : 
                     IsSince (phase_of v) (phase_of (s.word Phase))) V.position V.polled by p f.word
                     (λ _ _. since_now) c (λ _ l i. rule.stands.polling.since c l i) l i;
                 untargeted = λ c l i. upd_case (λ k x. k < z.sizes.threads → IsBusy x → V.target k ≡ None) V.position by p
-                    (λ _ _. target) c (λ _ l i. rule.stands.polling.untargeted c l i) l i;
+                    (λ _ i. target ∙ free i) c (λ _ l i. rule.stands.polling.untargeted c l i) l i;
                 targets = rule.stands.polling.targets;
               };
               owners = owners_at z V.position by p (s.word Phase) V.own rule.stands.owners (λ _. own);
+              stopped = stopped_run z (s.word Phase) (upd V.position by p) (λ c. (V.rest c).collecting.counted)
+                  (subst (λ x. is_run (phase_of x).code ≡ true) (sym found) run);
+              wanted = rule.stands.wanted;
               framed = rule.stands.framed;
               housed = rule.stands.housed;
               handed = rule.stands.handed;
@@ -230,49 +241,64 @@ module _ (z : Ground) (s : State) (by : ℕ) (less : by < z.sizes.threads) (g : 
             };
           }))
 
+    -- it goes on waiting
+    still_waiting : (next : Option Call) →
+        Rule z (stepped_by s by (does K1 Phase (LoadsFor next)) f (waits_on z by (s.caller by) Phase (LoadsFor next) f))
+    still_waiting next =
+        let me = s.caller by in
+        let same = idle_calls Waiting t tt in (
+          g,
+          poll_rule Waiting me.header me.seen me.refused me.calls me.births tt refl tt tt tt tt (omega (arith, same)) (λ h. absurd h)
+              (omega arith) (rule.told.calls_fit by less) (rule.told.births_fit by less),
+        )
+
     none_read : (x : Option (ℕ × ℕ × FieldKind)) → IsReadFor (shapes g) (g.local by) x None
     none_read None = tt
     none_read (Some t) = tt
 
-    -- no call begins
-    none_begun : Rule z (stepped_by s by (does K1 Phase (LoadsFor None)) f (quietly (record (s.caller by) {
-      position = Between;
-      polled = f.word;
-    })))
-    none_begun =
-        let me = s.caller by in (
-          g,
-          poll_rule Between me.header me.seen me.refused me.calls me.births tt refl tt tt tt tt (omega arith) (omega arith)
-              (rule.told.calls_fit by less) (rule.told.births_fit by less),
+    -- it wants no epoch
+    module _ (free : t ≡ None) where
+      -- no call begins
+      none_begun : Rule z (stepped_by s by (does K1 Phase (LoadsFor None)) f (quietly (record (s.caller by) {
+        position = Between;
+        polled = f.word;
+      })))
+      none_begun =
+          let me = s.caller by in
+          let same = idle_calls Between t tt in (
+            g,
+            poll_rule Between me.header me.seen me.refused me.calls me.births tt refl tt tt tt tt (omega (arith, same)) (λ _. free)
+                (omega arith) (rule.told.calls_fit by less) (rule.told.births_fit by less),
+          )
+
+      -- a call begins, and may be answered at once
+      module _ (here : ℕ → Bool) (call : Call) (may : MayBegin z by (s.caller by) here call) where
+        abbrev u : View
+        u = with_call z by (s.caller by) Phase (LoadsFor (Some call)) f call (Calling call)
+
+        births_ok : (b : Bool) → makes_object call ≡ b → (s.caller by).births + cond b 1 0 ≤ slice_index z.sizes.births by
+        births_ok true e = let h = may.birth_left e in omega arith
+        births_ok false e = let h = rule.told.births_fit by less in omega arith
+
+        begun_rule : RuleOf z g (put s.word Phase f.word) s.page (views_of (upd s.caller by u)) s.history
+        begun_rule =
+            let left = may.call_left in
+            let none = ap (under_way Out) free in
+            poll_rule (Calling call) None u.seen u.refused u.calls u.births (may.built, may.in_range) refl tt tt (none_read (field_of call)) tt
+            (omega (arith, none)) (λ _. free) (omega arith) (omega arith) (births_ok (makes_object call) refl)
+
+        call_begun : (x : Option Reply) → view_answer z (s.caller by) call ≡ x →
+            Rule z (stepped_by s by (does K1 Phase (LoadsFor (Some call))) f (begin_with z by (s.caller by) Phase (LoadsFor (Some call)) f call x))
+        call_begun None e = (g, begun_rule)
+        call_begun (Some reply) e = (
+          with_entered g by (epoch_in u),
+          then_answer z s by less g u (put s.word Phase f.word) s.page begun_rule call reply (view_answers call reply may.in_range e) refl no_cell,
         )
 
-    -- a call begins, and may be answered at once
-    module _ (here : ℕ → Bool) (call : Call) (may : MayBegin z by (s.caller by) here call) where
-      abbrev u : View
-      u = with_call z by (s.caller by) Phase (LoadsFor (Some call)) f call (Calling call)
-
-      births_ok : (b : Bool) → makes_object call ≡ b → (s.caller by).births + cond b 1 0 ≤ slice_index z.sizes.births by
-      births_ok true e = let h = may.birth_left e in omega arith
-      births_ok false e = let h = rule.told.births_fit by less in omega arith
-
-      begun_rule : RuleOf z g (put s.word Phase f.word) s.page (views_of (upd s.caller by u)) s.history
-      begun_rule =
-          let left = may.call_left in
-          poll_rule (Calling call) None u.seen u.refused u.calls u.births (may.built, may.in_range) refl tt tt (none_read (field_of call)) tt
-          (omega arith) (omega arith) (omega arith) (births_ok (makes_object call) refl)
-
-      call_begun : (x : Option Reply) → view_answer z (s.caller by) call ≡ x →
-          Rule z (stepped_by s by (does K1 Phase (LoadsFor (Some call))) f (begin_with z by (s.caller by) Phase (LoadsFor (Some call)) f call x))
-      call_begun None e = (g, begun_rule)
-      call_begun (Some reply) e = (
-        with_entered g by (epoch_in u),
-        then_answer z s by less g u (put s.word Phase f.word) s.page begun_rule call reply (view_answers call reply may.in_range e) refl no_cell,
-      )
-
-    ran : (here : ℕ → Bool) (next : Option Call) → MayNext z by (s.caller by) here next →
-        Rule z (stepped_by s by (does K1 Phase (LoadsFor next)) f (poll_run z by (s.caller by) Phase (LoadsFor next) f next))
-    ran here None m = none_begun
-    ran here (Some call) m = call_begun here call m _ refl
+      ran : (here : ℕ → Bool) (next : Option Call) → MayNext z by (s.caller by) here next →
+          Rule z (stepped_by s by (does K1 Phase (LoadsFor next)) f (poll_run z by (s.caller by) Phase (LoadsFor next) f next))
+      ran here None m = none_begun
+      ran here (Some call) m = call_begun here call m _ refl
 
   -- a poll
   module _ (f : Found) (here : ℕ → Bool) (found : s.word Phase ≡ f.word) where
@@ -284,30 +310,84 @@ module _ (z : Ground) (s : State) (by : ℕ) (less : by < z.sizes.threads) (g : 
           (sym (views_kept z s by less g (s.caller by) refl refl refl refl refl refl refl)) rule),
     )
 
-    -- a mutator between calls leaves; its state stays 1
-    left : (next : Option Call) → (s.caller by).position ≡ Between →
+    -- a mutator that is in, with nothing under way, leaves; its state stays 1
+    left : (next : Option Call) (q : Position) → (s.caller by).position ≡ q → IsIdle q → IsIn q → state_number q ≡ 1 →
         Rule z (stepped_by s by (does K1 Phase (LoadsFor next)) f (quietly (record (s.caller by) { position = Leaving })))
-    left next at =
+    left next q at idle isin state =
         let u : View = record (s.caller by) { position = Leaving } in
-        let one : 1 ≡ s.word (StateOf by) = sym (rule.stands.stated.each by (omega arith) ∙ ap state_number at) in
-        let owners = owners_at z V.position by Leaving (s.word Phase) V.own rule.stands.owners (λ _. tt) in (
+        let one : 1 ≡ s.word (StateOf by) = sym (rule.stands.stated.each by (omega arith) ∙ (ap state_number at ∙ state)) in
+        let owners = owners_at z V.position by Leaving (s.word Phase) V.own rule.stands.owners (λ _. tt) in
+        let going : q ≢ Ended = λ e. let h : 1 ≡ 2 = sym state ∙ ap state_number e in omega (arith, h) in (
           g,
           subst (λ x. RuleOf z g x s.page (views_of (upd s.caller by u)) s.history)
               (put_same s.word (StateOf by) 1 one ∙ sym (put_same s.word Phase f.word (sym found)))
-              (idle_moved z s by less g rule Between Leaving 1 at tt (λ e. cc) tt (λ h. h) refl owners),
+              (idle_moved z s by less g rule q Leaving 1 at idle going tt (λ h. h) refl owners (λ _. in_leaves q isin)),
         )
+
+    -- a mutator that waits for an epoch, and finds it done
+    told_at_once : (next : Option Call) (q : Position) → (s.caller by).position ≡ q → IsIdle q → state_number q ≡ 1 → (n : ℕ) →
+        (s.caller by).target ≡ Some n → n ≤ last_done (phase_of f.word) → (w : ℕ) → IsSince (phase_of w) (phase_of (s.word Phase)) →
+        Stopped z (s.word Phase) (upd V.position by Between) (λ c. (V.rest c).collecting.counted) →
+        Rule z (stepped_by s by (does K1 Phase (LoadsFor next)) f (epoch_told z by (s.caller by) Phase (LoadsFor next) f w n))
+    told_at_once next q at idle state n target done w since stopped = (
+      with_entered g by (pauses (phase_of f.word)),
+      told_rule z s by less g rule q at idle state n target f found done w since stopped,
+    )
+
+    run_stops : is_run (phase_of f.word).code ≡ true →
+        Stopped z (s.word Phase) (upd V.position by Between) (λ c. (V.rest c).collecting.counted)
+    run_stops run = stopped_run z (s.word Phase) (upd V.position by Between) (λ c. (V.rest c).collecting.counted)
+        (subst (λ x. is_run (phase_of x).code ≡ true) (sym found) run)
+
+    run_polled : is_run (phase_of f.word).code ≡ true → IsSince (phase_of f.word) (phase_of (s.word Phase))
+    run_polled run = subst (λ x. IsSince (phase_of f.word) (phase_of x)) (sym found) (run_since (phase_of f.word).epoch (phase_of f.word).code run)
+
+    -- a poll of a run phase by one that waits for an epoch
+    waited : (next : Option Call) (q : Position) → (s.caller by).position ≡ q → IsIdle q → state_number q ≡ 1 →
+        is_run (phase_of f.word).code ≡ true → (n : ℕ) → (s.caller by).target ≡ Some n → (b : Bool) →
+        leb n (last_done (phase_of f.word)) ≡ b →
+        Rule z (stepped_by s by (does K1 Phase (LoadsFor next)) f (cond b (epoch_told z by (s.caller by) Phase (LoadsFor next) f f.word n)
+        (waits_on z by (s.caller by) Phase (LoadsFor next) f)))
+    waited next q at idle state run n target true e =
+        told_at_once next q at idle state n target (leb-true n (last_done (phase_of f.word)) e) f.word (run_polled run) (run_stops run)
+    waited next q at idle state run n target false e = still_waiting q at idle state (Some n) target f found run next
+
+    entering_for : (next : Option Call) → (s.caller by).position ≡ Entering → is_run (phase_of f.word).code ≡ true → (t : Option ℕ) →
+        (s.caller by).target ≡ t → MayEnterFor z by (s.caller by) here t next →
+        Rule z (stepped_by s by (does K1 Phase (LoadsFor next)) f (enters_for z by (s.caller by) Phase (LoadsFor next) f t next))
+    entering_for next at run None target m = ran Entering at tt refl None target f found run refl here next m
+    entering_for next at run (Some n) target m = waited next Entering at tt refl run n target _ refl
 
     entering_by : (next : Option Call) → (s.caller by).position ≡ Entering → MayPollAt z by (s.caller by) here Entering next → (b : Bool) →
         is_run (phase_of f.word).code ≡ b →
         Rule z (stepped_by s by (does K1 Phase (LoadsFor next)) f (poll_at z by (s.caller by) Phase (LoadsFor next) f Entering b next))
-    entering_by next at m true run = ran Entering at tt refl m.0 f found run here next m.1
+    entering_by next at m true run = entering_for next at run (s.caller by).target refl m
     entering_by next at m false run = unmoved next
 
     between_by : (next : Option Call) → (s.caller by).position ≡ Between → MayPollAt z by (s.caller by) here Between next → (b : Bool) →
         is_run (phase_of f.word).code ≡ b →
         Rule z (stepped_by s by (does K1 Phase (LoadsFor next)) f (poll_at z by (s.caller by) Phase (LoadsFor next) f Between b next))
-    between_by next at m true run = ran Between at tt refl m.0 f found run here next m.1
-    between_by next at m false run = left next at
+    between_by next at m true run = ran Between at tt refl None m.0 f found run refl here next m.1
+    between_by next at m false run = left next Between at tt tt refl
+
+    -- a stop that one finds which waits
+    stop_found : (next : Option Call) → (s.caller by).position ≡ Waiting → (n : ℕ) → (s.caller by).target ≡ Some n → (b : Bool) →
+        leb n (last_done (phase_of f.word)) ≡ b →
+        Rule z (stepped_by s by (does K1 Phase (LoadsFor next)) f (cond b (epoch_told z by (s.caller by) Phase (LoadsFor next) f (s.caller by).polled n)
+        (quietly (record (s.caller by) { position = Leaving }))))
+    stop_found next at n target true e =
+        told_at_once next Waiting at tt refl n target (leb-true n (last_done (phase_of f.word)) e) (s.caller by).polled
+        (rule.stands.polling.since by less (subst (λ p. IsIn p) (sym at) tt))
+        (stopped_at z V.position by Between (s.word Phase) (λ c. (V.rest c).collecting.counted) rule.stands.stopped
+        (λ _ _. subst (λ p. IsInOrLeaving p) (sym at) tt))
+    stop_found next at n target false e = left next Waiting at tt tt refl
+
+    waiting_by : (next : Option Call) → (s.caller by).position ≡ Waiting → (b : Bool) → is_run (phase_of f.word).code ≡ b → (t : Option ℕ) →
+        (s.caller by).target ≡ t →
+        Rule z (stepped_by s by (does K1 Phase (LoadsFor next)) f (waits_at z by (s.caller by) Phase (LoadsFor next) f b t))
+    waiting_by next at b run None target = unmoved next
+    waiting_by next at true run (Some n) target = waited next Waiting at tt refl run n target _ refl
+    waiting_by next at false run (Some n) target = stop_found next at n target _ refl
 
     pub polled_kept : (next : Option Call) (q : Position) → (s.caller by).position ≡ q → MayPollAt z by (s.caller by) here q next →
         Rule z (stepped_by s by (does K1 Phase (LoadsFor next)) f (poll_at z by (s.caller by) Phase (LoadsFor next) f q
@@ -315,6 +395,7 @@ module _ (z : Ground) (s : State) (by : ℕ) (less : by < z.sizes.threads) (g : 
     polled_kept next Out at m = unmoved next
     polled_kept next Entering at m = entering_by next at m _ refl
     polled_kept next Between at m = between_by next at m _ refl
+    polled_kept next Waiting at m = waiting_by next at _ refl (s.caller by).target refl
     polled_kept next _ at m = absurd m
 
   -- the state is stored
@@ -328,31 +409,31 @@ module _ (z : Ground) (s : State) (by : ℕ) (less : by < z.sizes.threads) (g : 
         subst (λ n. Stored n) (sym e) (
           g,
           idle_moved z s by less g rule Out Entering 1 at tt (λ e. cc) tt (λ h. h) refl
-              (owners_gone z s by less g rule Entering none),
+              (owners_gone z s by less g rule Entering none) (λ h. absurd h),
         )
     state_kept n Out at (inr e) =
         let none = none_out z s by less g rule Out at (λ h. h) in
         subst (λ n. Stored n) (sym e.0) (
           g,
           idle_moved z s by less g rule Out Ended 2 at tt (λ e. cc) tt (λ h. h) refl
-              (owners_gone z s by less g rule Ended none),
+              (owners_gone z s by less g rule Ended none) (λ h. absurd h),
         )
     state_kept n Entering at m =
         subst (λ n. Stored n) (sym m.0) (
           g,
           idle_moved z s by less g rule Entering Out 0 at tt (λ e. cc) tt (λ h. h) refl
-              (owners_gone z s by less g rule Out m.1),
+              (owners_gone z s by less g rule Out m.1) (λ h. absurd h),
         )
     state_kept n Leaving at m =
         subst (λ n. Stored n) (sym m.0) (
           g,
           idle_moved z s by less g rule Leaving Out 0 at tt (λ e. cc) tt (λ h. h) refl
-              (owners_gone z s by less g rule Out m.1),
+              (owners_gone z s by less g rule Out m.1) (λ h. absurd h),
         )
     state_kept n Between at m =
         subst (λ n. Stored n) (sym m.0) (
           g,
           idle_moved z s by less g rule Between Ended 2 at tt (λ e. cc) tt (λ h. h) refl
-              (owners_gone z s by less g rule Ended m.1.2),
+              (owners_gone z s by less g rule Ended m.1.2) (λ h. absurd h),
         )
     state_kept n _ at m = absurd m

@@ -34,6 +34,24 @@ use Rattle.kn_keep_heap.proofs.Changed.{upd_case3}
 pub not_without : (taken : ℕ → Option Taken) (c : ℕ) (t : Taken) → taken c ≡ None → taken c ≡ Some t → ⊥
 not_without taken c t none e = let h : Option.None ≡ Some t = sym none ∙ e in cc
 
+-- a caller's log gets one entry more, and so does the history
+module _ (by : ℕ) (call : Call) (reply : Reply) (address epoch : ℕ) where
+  abbrev one_said : Entry
+  one_said = entry_of by epoch call reply address
+
+  log_at : (h : List Entry) (log : ℕ → List Entry) (c : ℕ) → log_of c h ≡ log c → Tells by c →
+      log_of c (h ++ one_said ∷ []) ≡ upd log by (log by ++ one_said ∷ []) c
+  log_at h log c e (inl t) =
+      log_of-append c h one_said ∙ (ap (λ b. cond b (log_of c h ++ one_said ∷ []) (log_of c h)) t.0
+      ∙ (ap (λ (l : List Entry). l ++ one_said ∷ []) (e ∙ ap log (sym t.1)) ∙ ap (λ b. cond b (log by ++ one_said ∷ []) (log c)) (sym t.0)))
+  log_at h log c e (inr t) =
+      log_of-append c h one_said ∙ (ap (λ b. cond b (log_of c h ++ one_said ∷ []) (log_of c h)) t.0
+      ∙ (e ∙ ap (λ b. cond b (log by ++ one_said ∷ []) (log c)) (sym t.0)))
+
+  pub log_said : (h : List Entry) (log : ℕ → List Entry) (c : ℕ) → log_of c h ≡ log c →
+      log_of c (h ++ one_said ∷ []) ≡ upd log by (log by ++ one_said ∷ []) c
+  log_said h log c e = log_at h log c e (eqb_tells by c)
+
 module _ (z : Ground) (position : ℕ → Position) (by : ℕ) (q : Position) where
   pub formed_at : (width : ℕ → ℕ × ℕ) → Formed z position width → IsRightCall z q → Formed z (upd position by q) width
   formed_at width r right = record {
@@ -133,21 +151,12 @@ module _ (z : Ground) (position : ℕ → Position) (by : ℕ) (q : Position) wh
     abbrev entry : Entry
     entry = entry_of by epoch call reply address
 
-    log_more : (h : List Entry) (log : ℕ → List Entry) (c : ℕ) → log_of c h ≡ log c → Tells by c →
-        log_of c (h ++ entry ∷ []) ≡ upd log by (log by ++ entry ∷ []) c
-    log_more h log c e (inl t) =
-        log_of-append c h entry ∙ (ap (λ b. cond b (log_of c h ++ entry ∷ []) (log_of c h)) t.0
-        ∙ (ap (λ (l : List Entry). l ++ entry ∷ []) (e ∙ ap log (sym t.1)) ∙ ap (λ b. cond b (log by ++ entry ∷ []) (log c)) (sym t.0)))
-    log_more h log c e (inr t) =
-        log_of-append c h entry ∙ (ap (λ b. cond b (log_of c h ++ entry ∷ []) (log_of c h)) t.0
-        ∙ (e ∙ ap (λ b. cond b (log by ++ entry ∷ []) (log c)) (sym t.0)))
-
     pub told_answered : (g g' : Graph) (h : List Entry) (log : ℕ → List Entry) (target : ℕ → Option ℕ) (calls births : ℕ → ℕ) →
         Told z g h log position target calls births → Follows z entry g g' → under_way q (target by) ≡ 0 → births_under_way q ≡ 0 →
         Told z g' (h ++ entry ∷ []) (upd log by (log by ++ entry ∷ [])) (upd position by q) target calls births
     told_answered g g' h log target calls births r next e f = record {
       leads = appended z h entry empty_graph g g' r.leads next;
-      logs = λ c l. log_more h log c (r.logs c l) (eqb_tells by c);
+      logs = λ c l. log_said by call reply address epoch h log c (r.logs c l);
       calls_are = λ c l. upd_case2 (λ k (x : List Entry) p. k < z.sizes.threads → length (calls_of x) + under_way p (target k) ≡ calls k)
           log position by (log by ++ entry ∷ []) q
           (λ l.

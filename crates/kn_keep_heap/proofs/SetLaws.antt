@@ -68,6 +68,8 @@ module _ (z : Ground) (s : State) (by : ℕ) (less : by < z.sizes.threads) (here
           at_end = rule.stands.at_end;
           polling = rule.stands.polling;
           owners = rule.stands.owners;
+          stopped = rule.stands.stopped;
+          wanted = rule.stands.wanted;
           framed = rule.stands.framed;
           housed = subst (λ (h : ℕ → Shape). Housed z.sizes (IsFilled z.sizes g.born h side) (λ p. s.word (Frame p)) s.page) sh rule.stands.housed;
           handed = subst (λ (h : ℕ → Shape). Handed z.sizes (callers z.sizes) (IsFilled z.sizes g.born h side) V.own V.taken

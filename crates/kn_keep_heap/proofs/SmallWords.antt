@@ -2,9 +2,6 @@
 use Rattle.std.proofs.Common.{ℕ, ◌+◌, ◌^◌, ◌<◌, ◌≤◌, Option, Some, None, sym, subst, arith}
 use Rattle.std.proofs.Common.{ap}
 use Rattle.kn_base.specs.declared.phase_word.PhaseWord.{PhaseWord}
-use Rattle.kn_base.specs.declared.kinds.Code.{Code}
-use Rattle.kn_base.specs.declared.kinds.Code.TheVariants as codes
-use Rattle.kn_base.specs.Kinds.{code_number}
 use Rattle.kn_graph.specs.Ground.{Ground, IsGoodGround}
 use Rattle.kn_graph.specs.Graph.{Graph, shapes}
 use Rattle.kn_graph.specs.Sound.{Alive}
@@ -12,18 +9,10 @@ use Rattle.kn_rule.specs.Decoding.{PacksPhase, phase_of}
 use Rattle.kn_rule.specs.Views.{State, views_of, local_of}
 use Rattle.kn_rule.specs.ObjectClauses.{address_of}
 use Rattle.kn_rule.specs.Rule.{RuleOf}
+use Rattle.kn_rule.proofs.Decodings.{code_small}
 use Rattle.kn_rule.proofs.FrameSpans.{in_heap, is_span_of}
 use Rattle.kn_keep_heap.specs.Laws.{LocalsAreAddresses, PhasesAreSmall}
 use Rattle.kn_keep_heap.proofs.ReadLaws.{snd}
-
-code_small : (c : Code) → code_number c < 8
-code_small codes.Idle = omega arith
-code_small codes.StopA = omega arith
-code_small codes.Mark = omega arith
-code_small codes.Weak = omega arith
-code_small codes.StopB = omega arith
-code_small codes.Prep = omega arith
-code_small codes.Sweep = omega arith
 
 -- the word of a phase
 pub phase_small : (w : ℕ) → PacksPhase w → w < 2 ^ 35

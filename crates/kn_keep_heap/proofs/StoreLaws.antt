@@ -24,7 +24,7 @@ use Rattle.kn_rule.specs.Allowed.{MayWriteAt, MaySetGlobalAt}
 use Rattle.kn_rule.specs.Moves.{stepped_by}
 use Rattle.kn_rule.specs.HistoryClauses.{under_way, births_under_way, IsRightCall}
 use Rattle.kn_rule.specs.ObjectClauses.{IsReadAt, IsValueDue, Localed, Globaled, address_of}
-use Rattle.kn_rule.specs.CallerClauses.{state_number, IsIn, IsBusy}
+use Rattle.kn_rule.specs.CallerClauses.{state_number, IsIn, IsBusy, IsInOrLeaving}
 use Rattle.kn_rule.specs.Rule.{Represents, Rule, RuleOf}
 use Rattle.kn_keep_heap.specs.Answered.{IsBehindAnswer, staying, Stays}
 use Rattle.kn_keep_heap.proofs.Parts.{views_moved, local_put, local_same, local_words, own_same, taken_same, position_put, header_same}
@@ -32,6 +32,7 @@ use Rattle.kn_keep_heap.proofs.Parts.{log_same, views_answer}
 use Rattle.kn_keep_heap.proofs.Locals.{local_stored, local_written, locals_moved}
 use Rattle.kn_keep_heap.proofs.Positions.{formed_at, at_end_at, stated_at, owners_at, cleared_at, apart_at, taken_in_at, polled_at, told_at, read_at}
 use Rattle.kn_keep_heap.proofs.Idle.{none_asked}
+use Rattle.kn_keep_heap.proofs.Wants.{stopped_at}
 use Rattle.kn_keep_heap.proofs.Answers.{epoch_call, answered, state_behind, calls_behind, births_behind, right_behind, in_behind, cleared_behind}
 use Rattle.kn_keep_heap.proofs.ReadLaws.{views_plain, ranges, cell_none, quiet, read_plain}
 use Rattle.kn_keep_heap.proofs.Values.{below_sixteen}
@@ -84,6 +85,9 @@ module _ (z : Ground) (s : State) (by : ℕ) (less : by < z.sizes.threads) (here
                 polling = polled_at z V.position by q g.paused (s.word Phase) (s.word Want) V.polled V.target V.log rule.stands.polling
                     (λ _. subst (λ p. IsIn p) (sym is) tt) (λ _. busy);
                 owners = owners_at z V.position by q (s.word Phase) V.own rule.stands.owners (λ _. in_behind q behind);
+                stopped = stopped_at z V.position by q (s.word Phase) (λ c. (V.rest c).collecting.counted) rule.stands.stopped
+                    (λ _ _. subst (λ p. IsInOrLeaving p) (sym is) tt);
+                wanted = rule.stands.wanted;
                 framed = rule.stands.framed;
                 housed = rule.stands.housed;
                 handed = rule.stands.handed;
@@ -182,6 +186,8 @@ module _ (z : Ground) (s : State) (by : ℕ) (less : by < z.sizes.threads) (here
         at_end = rule.stands.at_end;
         polling = rule.stands.polling;
         owners = rule.stands.owners;
+        stopped = rule.stands.stopped;
+        wanted = rule.stands.wanted;
         framed = rule.stands.framed;
         housed = rule.stands.housed;
         handed = rule.stands.handed;

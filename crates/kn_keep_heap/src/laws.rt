@@ -3,14 +3,14 @@
 ghost use Rattle.kn_rule.specs.declared.steps.Kind.TheVariants.{K1, K2, K3, K4, K5};
 ghost use Rattle.kn_rule.specs.declared.steps.Kind.TheVariants.{K6, K7, K8, K9, K10};
 ghost use Rattle.kn_rule.specs.declared.steps.Kind.TheVariants.{K11, K12};
-ghost use Rattle.kn_keep_heap.specs.Laws.{KeepsRule, LocalsAreAddresses, PhasesAreSmall, StepsKeepRule, StepsLieWithin};
+ghost use Rattle.kn_keep_heap.specs.Laws.{KeepsRule, LocalsAreAddresses, PhasesAreSmall};
 
 /// A poll keeps the rule.
 pub fn keeps_k1()
     ensures { KeepsRule K1 }
 {}
 
-/// A store of a mutator's state keeps the rule.
+/// A store of a mutator's state, and of the collector's where it ends, keeps the rule.
 pub fn keeps_k2()
     ensures { KeepsRule K2 }
 {}
@@ -63,16 +63,6 @@ pub fn keeps_k11()
 /// A word of a new cell keeps the rule.
 pub fn keeps_k12()
     ensures { KeepsRule K12 }
-{}
-
-/// Each step that a view allows is made at a place of the heap.
-pub fn places_lie()
-    ensures { StepsLieWithin }
-{}
-
-/// Each step that a view allows keeps the rule, of whatever kind it is.
-pub fn steps_keep()
-    ensures { StepsKeepRule }
 {}
 
 /// Phases and addresses are short words.

@@ -70,6 +70,17 @@ impl Layout {
     }
 }
 
+/// Equal layouts, in the same order. An error is want of memory.
+pub fn copy_layouts(alloc: Global, layouts: &[Layout]) -> Result<Vec<Layout>, AllocError>
+    ensures { IfOk result (λ copies. copies.items ≡ layouts.now) }
+{
+    let mut copies = Vec::with_capacity(alloc, layouts.len())?;
+    for layout in layouts {
+        copies.push(layout.copy(alloc)?)?;
+    }
+    Ok(copies)
+}
+
 /// The words of a cell for so many fields or elements: one, and one for each, and at least 2
 /// (`cell_size` in `specs/Layouts.antt`).
 pub fn cell_size(fields: u32) -> u64

@@ -7,7 +7,7 @@
 
 mod layouts;
 
-pub use layouts::{FieldKind, FieldKinds, Layout, cell_size, cell_words, kind_at};
+pub use layouts::{FieldKind, FieldKinds, Layout, cell_size, cell_words, copy_layouts, kind_at};
 
 #[cfg(test)]
 mod tests;

@@ -26,7 +26,7 @@ use Rattle.kn_alloc.specs.declared.stage.Request.TheVariants.{Cell}
 use Rattle.kn_alloc.specs.Agree.{Agrees, HasBegun, IsGetting}
 use Rattle.kn_alloc.specs.Keeps.{HasHand, Keeps, Starts, header_asked, words_of_request}
 use Rattle.kn_alloc.specs.Tells.{IsKept}
-use Rattle.kn_mutator.specs.Begun.{Begins, BeginsAs, IsTheRequest, Requests, alone}
+use Rattle.kn_mutator.specs.Begun.{Begins, BeginsAs, IsTheRequest, RequestsCell, alone}
 use Rattle.kn_mutator.specs.declared.task.Task.TheVariants.{Births, Calls, Ends}
 use Rattle.kn_mutator.specs.Mutating.{Mutating}
 use Rattle.kn_mutator.specs.After.{answered, resting_task}
@@ -86,7 +86,7 @@ request_is z call r layout len request makes birth near few is =
 
 -- a call begins whose answer the view alone gives, whose cell is asked for, or that goes on with steps of its own
 module _ (m : Mutating) (call : Call) (m' : Mutating) where
-  pub begins_said : (reply : Reply) → alone m call ≡ Some reply → m' ≡ answered (record m { begun = m.begun + 1 }) call reply 0 → Begins m call m'
+  pub begins_said : (reply : Reply) → alone m call ≡ Some reply → m' ≡ answered (record m { begun = m.begun + 1 }) call reply → Begins m call m'
   begins_said reply said is = subst (λ o. BeginsAs m call o (makes_object call) m') (sym said) is
 
   begins_none : (birth : Bool) → alone m call ≡ None → makes_object call ≡ birth → BeginsAs m call None birth m' → Begins m call m'
@@ -97,7 +97,7 @@ module _ (m : Mutating) (call : Call) (m' : Mutating) where
       Begins m call m'
   begins_steps = begins_none false
 
-  pub begins_request : alone m call ≡ None → makes_object call ≡ true → Requests m call m' → Begins m call m'
+  pub begins_request : alone m call ≡ None → makes_object call ≡ true → RequestsCell m call m' → Begins m call m'
   begins_request = begins_none true
 
 not_full : (b : Bool) → cond b (Some Full) None ≡ None → b ≡ false
@@ -125,7 +125,7 @@ module _ (m : Mutating) (call : Call) (request : Request) (is : IsTheRequest m.h
   pub requests : Starts m.alloc words (header_asked request) m.epoch alloc →
       ((a : Stand) (here : ℕ → Bool) → Agrees m.alloc a here → HasBegun a words (header_asked request) m.epoch → Agrees alloc a here) →
       (is_too_long m.alloc.sizes (class_for m.alloc.sizes words) words ≡ false → IsGetting alloc.stage) → IsKept m.alloc alloc →
-      (m' : Mutating) → m' ≡ record m { begun = m.begun + 1; task = Births call; alloc = alloc } → Requests m call m'
+      (m' : Mutating) → m' ≡ record m { begun = m.begun + 1; task = Births call; alloc = alloc } → RequestsCell m call m'
   requests started agrees gets kept m' after = record {
     birth = is.birth;
     words = words;

@@ -6,12 +6,17 @@ use Rattle.kn_graph.specs.declared.calls.Call.{Call}
 use Rattle.kn_graph.specs.declared.calls.Call.TheVariants.{New, NewArray, Copy, Clear, Same, Get, Set, Put, Read, GlobalSet, GlobalGet}
 use Rattle.kn_graph.specs.declared.calls.Call.TheVariants as calls
 use Rattle.kn_graph.specs.Counts.{makes_object}
-use Rattle.kn_rule.specs.Allowed.{IsBuilt}
 use Rattle.kn_mutator.specs.Begun.{alone}
-use Rattle.kn_mutator.specs.Mutating.{Mutating}
+use Rattle.kn_rule.specs.Allowed.{IsBuilt}
+use Rattle.kn_mutator.specs.Mutating.{IsMade, Mutating}
 
 -- a call that is built, makes no object and is not answered by the view alone is one of these
-pub no_other : (m : Mutating) (call : Call) → IsBuilt call → makes_object call ≡ false → alone m call ≡ None →
+-- a call that a mutator makes is built
+pub made_built : (call : Call) → IsMade call → IsBuilt call
+made_built calls.Collect h = absurd h
+made_built _ h = h
+
+pub no_other : (m : Mutating) (call : Call) → IsMade call → makes_object call ≡ false → alone m call ≡ None →
     ((x y : ℕ) → call ≡ Copy x y → ⊥) →
     ((x : ℕ) → call ≡ Clear x → ⊥) →
     ((x y z : ℕ) → call ≡ Get x y z → ⊥) →

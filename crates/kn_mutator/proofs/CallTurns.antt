@@ -25,7 +25,7 @@ use Rattle.kn_mutator.specs.Agree.{Agrees, CallsAt}
 use Rattle.kn_mutator.specs.After.{answered, assigned, judged, judged_as, judged_for, referred}
 use Rattle.kn_mutator.specs.Mutating.{Mutating}
 use Rattle.kn_mutator.specs.Tasks.{call_step, local_kept}
-use Rattle.kn_mutator.specs.Turns.{Goes}
+use Rattle.kn_mutator.specs.Turns.{Goes, asks_none}
 use Rattle.kn_mutator.proofs.Calling.{calls_at, in_range, turn_answers, turn_goes_on, turn_refers, turn_small}
 
 -- a call on a field loads the header of its object first
@@ -61,7 +61,7 @@ module _ {T : Type 0} (stand : T → Stand) (here : T → ℕ → Bool) (did : T
       (made : Made (stand s) (here s) (does K3 (Local by r) (Stores word)) f (stand s') (here s'))
       (kept : did s (does K3 (Local by r) (Stores word)) f s') where
     writes_local : (call : Call) → m.task ≡ Calls call h → call_step m.by (local_kept m) call h ≡ Some (does K3 (Local m.by r) (Stores value)) →
-        Goes stand here did moved m s s' (assigned m call r value) Moved
+        (q : Mutating) → q ≡ assigned m call r value → Goes stand here did moved asks_none m s s' q Moved
     writes_local call is named =
         let v : View = (stand s).view in
         let at : CallsAt m v call h = calls_at m (stand s) (here s) g call h is in
@@ -74,10 +74,11 @@ module _ {T : Type 0} (stand : T → Stand) (here : T → ℕ → Bool) (did : T
         (ap (λ q. logged (write_at (stand s).heap (stand s).by v (Local by r) (Stores word) f q)) at.position)
 
     pub copies : (t : ℕ) → m.task ≡ Calls (Copy r t) h → value ≡ slice_index m.locals t →
-        Goes stand here did moved m s s' (assigned m (Copy r t) r value) Moved
+        (q : Mutating) → q ≡ assigned m (Copy r t) r value → Goes stand here did moved asks_none m s s' q Moved
     copies t is e = writes_local (Copy r t) is (ap (λ w. Some (does K3 (Local m.by r) (Stores w))) (sym e))
 
-    pub clears : m.task ≡ Calls (Clear r) h → value ≡ 0 → Goes stand here did moved m s s' (assigned m (Clear r) r value) Moved
+    pub clears : m.task ≡ Calls (Clear r) h → value ≡ 0 → (q : Mutating) → q ≡ assigned m (Clear r) r value →
+        Goes stand here did moved asks_none m s s' q Moved
     clears is e = writes_local (Clear r) is (ap (λ w. Some (does K3 (Local m.by r) (Stores w))) (sym e))
 
   -- a field is stored
@@ -85,7 +86,7 @@ module _ {T : Type 0} (stand : T → Stand) (here : T → ℕ → Bool) (did : T
       (made : Made (stand s) (here s) (does K5 p (Stores word)) f (stand s') (here s')) (kept : did s (does K5 p (Stores word)) f s') where
     stores_field : (call : Call) → m.task ≡ Calls call (Some header) →
         call_step m.by (local_kept m) call (Some header) ≡ Some (does K5 (Body (slice_index m.locals t + 1 + i)) (Stores word)) →
-        Goes stand here did moved m s s' (answered m call replies.Ok 0) Moved
+        (q : Mutating) → q ≡ answered m call replies.Ok → Goes stand here did moved asks_none m s s' q Moved
     stores_field call is named =
         let v : View = (stand s).view in
         let at : CallsAt m v call (Some header) = calls_at m (stand s) (here s) g call (Some header) is in
@@ -94,17 +95,18 @@ module _ {T : Type 0} (stand : T → Stand) (here : T → ℕ → Bool) (did : T
         (ap (λ q. logged (store_at (stand s).heap (stand s).by v p (Stores word) f q)) at.position)
 
     pub sets : (r : ℕ) → m.task ≡ Calls (Set t i r) (Some header) → word ≡ slice_index m.locals r →
-        Goes stand here did moved m s s' (answered m (Set t i r) replies.Ok 0) Moved
+        (q : Mutating) → q ≡ answered m (Set t i r) replies.Ok → Goes stand here did moved asks_none m s s' q Moved
     sets r is e = stores_field (Set t i r) is (ap (λ w. Some (does K5 (Body (slice_index m.locals t + 1 + i)) (Stores w))) (sym e))
 
-    pub puts : m.task ≡ Calls (Put t i word) (Some header) → Goes stand here did moved m s s' (answered m (Put t i word) replies.Ok 0) Moved
+    pub puts : m.task ≡ Calls (Put t i word) (Some header) → (q : Mutating) → q ≡ answered m (Put t i word) replies.Ok →
+        Goes stand here did moved asks_none m s s' q Moved
     puts is = stores_field (Put t i word) is refl
 
   -- a field is loaded
   module _ (p : Place) (t i header : ℕ) (place : p ≡ Body (slice_index m.locals t + 1 + i))
       (made : Made (stand s) (here s) (does K4 p Loads) f (stand s') (here s')) (kept : did s (does K4 p Loads) f s') where
     pub reads : m.task ≡ Calls (Read t i) (Some header) →
-        Goes stand here did moved m s s' (answered m (Read t i) (replies.Int f.word) 0) Moved
+        (q : Mutating) → q ≡ answered m (Read t i) (replies.Int f.word) → Goes stand here did moved asks_none m s s' q Moved
     reads is =
         let v : View = (stand s).view in
         let at : CallsAt m v (Read t i) (Some header) = calls_at m (stand s) (here s) g (Read t i) (Some header) is in
@@ -122,7 +124,7 @@ module _ {T : Type 0} (stand : T → Stand) (here : T → ℕ → Bool) (did : T
           ap (λ q. logged (load_body (stand s).heap (stand s).by v p Loads f q v.header)) at.position
           ∙ ap (λ h. logged (load_body (stand s).heap (stand s).by v p Loads f (Calling (Get r t i)) h)) at.header
 
-      pub gets : Goes stand here did moved m s s' (referred m (Get r t i) r f.word) Moved
+      pub gets : (q : Mutating) → q ≡ referred m (Get r t i) r f.word → Goes stand here did moved asks_none m s s' q Moved
       gets = turn_refers stand here did moved m s s' g (Get r t i) (Some header) is (does K4 p Loads) f
           (ap (λ p. Some (does K4 p Loads)) (sym place)) made kept made.lies r f.word got
 
@@ -134,7 +136,7 @@ module _ {T : Type 0} (stand : T → Stand) (here : T → ℕ → Bool) (did : T
   -- a global is stored
   pub sets_global : (i r word : ℕ) (h : Option ℕ) → m.task ≡ Calls (GlobalSet i r) h → word ≡ slice_index m.locals r →
       Made (stand s) (here s) (does K7 (Global i) (Stores word)) f (stand s') (here s') → did s (does K7 (Global i) (Stores word)) f s' →
-      Goes stand here did moved m s s' (answered m (GlobalSet i r) replies.Ok 0) Moved
+      (q : Mutating) → q ≡ answered m (GlobalSet i r) replies.Ok → Goes stand here did moved asks_none m s s' q Moved
   sets_global i r word h is e made kept =
       let v : View = (stand s).view in
       let at : CallsAt m v (GlobalSet i r) h = calls_at m (stand s) (here s) g (GlobalSet i r) h is in
@@ -151,7 +153,7 @@ module _ {T : Type 0} (stand : T → Stand) (here : T → ℕ → Bool) (did : T
         let at : CallsAt m (stand s).view (GlobalGet r i) h = calls_at m (stand s) (here s) g (GlobalGet r i) h is in
         ap (λ q. logged (global_read (stand s).heap (stand s).by (stand s).view (Global i) Loads f q)) at.position
 
-    pub gets_global : Goes stand here did moved m s s' (referred m (GlobalGet r i) r f.word) Moved
+    pub gets_global : (q : Mutating) → q ≡ referred m (GlobalGet r i) r f.word → Goes stand here did moved asks_none m s s' q Moved
     gets_global = turn_refers stand here did moved m s s' g (GlobalGet r i) h is (does K6 (Global i) Loads) f refl made kept made.lies r f.word got_global
 
     pub global_is_small : f.word ≤ 1000000
@@ -168,14 +170,14 @@ module _ {T : Type 0} (stand : T → Stand) (here : T → ℕ → Bool) (did : T
     goes_on : (k : FieldKind) → wanted ≡ k → told_kind m.heap f.word i ≡ Some k →
         view_after (stand s).heap (stand s).by (stand s).view (does K4 (Body address) Loads) f
         ≡ logged (header_read (stand s).heap (stand s).by (stand s).view (Body address) Loads f call (Some k) true) →
-        Goes stand here did moved m s s' (record m { task = Calls call (Some f.word) }) Moved
+        (q : Mutating) → q ≡ record m { task = Calls call (Some f.word) } → Goes stand here did moved asks_none m s s' q Moved
     goes_on k same told view =
         turn_goes_on stand here did moved m s s' g call None is (does K4 (Body address) Loads) f named made kept made.lies f.word (t, i, wanted) refl field
         (told ∙ ap (λ k. Some k) (sym same)) view
 
     ends_with : (k : FieldKind) → view_after (stand s).heap (stand s).by (stand s).view (does K4 (Body address) Loads) f
         ≡ logged (header_read (stand s).heap (stand s).by (stand s).view (Body address) Loads f call (Some k) false) →
-        Goes stand here did moved m s s' (answered m call replies.WrongKind 0) Moved
+        (q : Mutating) → q ≡ answered m call replies.WrongKind → Goes stand here did moved asks_none m s s' q Moved
     ends_with k view =
         turn_answers stand here did moved m s s' g call None is (does K4 (Body address) Loads) f named made kept made.lies replies.WrongKind
         (stand s).view.locals m.locals g.knows.locals g.width view
@@ -184,7 +186,7 @@ module _ {T : Type 0} (stand : T → Stand) (here : T → ℕ → Bool) (did : T
         view_after (stand s).heap (stand s).by (stand s).view (does K4 (Body address) Loads) f
         ≡ logged (header_read (stand s).heap (stand s).by (stand s).view (Body address) Loads f call x
         (is_wanted (stand s).heap (stand s).by (stand s).view (Body address) Loads f x k)) →
-        Goes stand here did moved m s s' (judged_as m call f.word k x) Moved
+        (q : Mutating) → q ≡ judged_as m call f.word k x → Goes stand here did moved asks_none m s s' q Moved
     judged_by k None same told view =
         turn_answers stand here did moved m s s' g call None is (does K4 (Body address) Loads) f named made kept made.lies replies.NoField
         (stand s).view.locals m.locals g.knows.locals g.width view
@@ -193,12 +195,12 @@ module _ {T : Type 0} (stand : T → Stand) (here : T → ℕ → Bool) (did : T
     judged_by kinds.Ref (Some kinds.Int) same told view = ends_with kinds.Int view
     judged_by kinds.Int (Some kinds.Ref) same told view = ends_with kinds.Ref view
 
-    pub reads_header : Goes stand here did moved m s s' (judged m call f.word) Moved
+    pub reads_header : (q : Mutating) → q ≡ judged m call f.word → Goes stand here did moved asks_none m s s' q Moved
     reads_header =
         let a : Stand = stand s in
         let v : View = a.view in
         let at : CallsAt m v call None = calls_at m a (here s) g call None is in
-        subst (λ x. Goes stand here did moved m s s' (judged_for m call f.word x) Moved) (sym field)
+        subst (λ x. (q : Mutating) → q ≡ judged_for m call f.word x → Goes stand here did moved asks_none m s s' q Moved) (sym field)
         (judged_by wanted (told_kind m.heap f.word i) refl refl
         (ap (λ q. logged (load_body a.heap a.by v (Body address) Loads f q v.header)) at.position
         ∙ (ap (λ h. logged (load_body a.heap a.by v (Body address) Loads f (Calling call) h)) at.header

@@ -9,7 +9,6 @@ use Rattle.kn_graph.specs.declared.calls.Reply.{Reply}
 use Rattle.kn_graph.specs.Arguments.{IsInRange}
 use Rattle.kn_layout.specs.declared.layouts.FieldKind.{FieldKind}
 use Rattle.kn_rule.specs.declared.positions.Position.TheVariants as positions
-use Rattle.kn_rule.specs.Allowed.{IsBuilt}
 use Rattle.kn_rule.specs.Moves.{view_after}
 use Rattle.kn_rule.specs.Outcomes.{ref_word}
 use Rattle.kn_rule.specs.Requests.{field_of, told_kind}
@@ -19,12 +18,12 @@ use Rattle.kn_steps.specs.Made.{LieAs, Made, Stand}
 use Rattle.kn_steps.specs.declared.turns.Turn.TheVariants.{Moved}
 use Rattle.kn_alloc.specs.Agree.{IsIdle}
 use Rattle.kn_mutator.specs.declared.task.Task.TheVariants.{Calls, Writes}
-use Rattle.kn_mutator.specs.Agree.{Agrees, Answers, AtTask, CallsAt, IsHeaderRead}
+use Rattle.kn_mutator.specs.Agree.{Agrees, AtTask, CallsAt, HasEnded, IsHeaderRead}
 use Rattle.kn_mutator.specs.After.{referred, resting_task, said}
-use Rattle.kn_mutator.specs.Mutating.{Mutating}
-use Rattle.kn_mutator.specs.Tasks.{call_step, calling_task, has_left, has_single, local_kept, task_at}
-use Rattle.kn_mutator.specs.Turns.{Goes}
-use Rattle.kn_mutator.proofs.Making.{alloc_rests, follows, goes_by, makes}
+use Rattle.kn_mutator.specs.Mutating.{IsMade, Mutating}
+use Rattle.kn_mutator.specs.Tasks.{call_step, calling_task, has_left, has_single, local_kept, task_at, task_by}
+use Rattle.kn_mutator.specs.Turns.{Goes, asks_none}
+use Rattle.kn_mutator.proofs.Making.{goes_by, makes, moves_on, rest_goes_on}
 use Rattle.kn_mutator.proofs.Core.{addresses_made, agrees_then, all_get, answers_more, is_thread, rest_at, said_is}
 
 -- a call at its own steps
@@ -32,10 +31,10 @@ module _ (m : Mutating) (a : Stand) (here : ℕ → Bool) (g : Agrees m a here) 
   pub calls_at : CallsAt m a.view call h
   calls_at = subst (λ t. AtTask t m a.view) is g.at
 
-  pub is_built : IsBuilt call
-  is_built =
+  pub is_made : IsMade call
+  is_made =
       let under = calls_at.under_way in
-      all_get IsBuilt m.calls under.number call g.planned.built under.is_call
+      all_get IsMade m.calls under.number call g.planned.made under.is_call
 
   pub in_range : IsInRange m.heap call
   in_range =
@@ -52,11 +51,10 @@ module _ (m : Mutating) (a : Stand) (here : ℕ → Bool) (g : Agrees m a here) 
         let at = calls_at in
         let u : View = logged (saying a.by (epoch_in a.view) call reply 0 (record a.view { position = positions.Between; locals = now })) in
         let m' : Mutating = record m { locals = locals; log = said m call reply 0; task = resting_task m } in
-        let answers : Answers m' m'.begun = answers_more m call at.under_way reply 0 m.begun m.epoch locals (resting_task m) m.alloc refl in
         agrees_then m a here g idle b here' u view refl refl refl lies m.begun m.epoch locals (resting_task m) (said m call reply 0)
         (record { locals = same; epoch = g.knows.epoch; log = said_is m a here g call reply 0; begun = g.knows.begun }) g.births g.target width
         (addresses_made a here d f b here' made g.alloc.good (is_thread m a here g))
-        (rest_at m' u refl answers at.alloc)
+        (rest_at m' u refl (answers_more m call at.under_way reply 0) at.alloc)
 
     -- a reference was read, whose store is due
     pub referred_agrees : (r w : ℕ) →
@@ -71,7 +69,6 @@ module _ (m : Mutating) (a : Stand) (here : ℕ → Bool) (g : Agrees m a here) 
         (record a.view { position = positions.Writing r w 0; locals = slice_set a.view.locals r w })) in
         let l : List ℕ = slice_set m.locals r w in
         let m' : Mutating = referred m call r w in
-        let answers : Answers m' m'.begun = answers_more m call at.under_way (ref_word w) 0 m.begun m.epoch l (Writes r w) m.alloc refl in
         agrees_then m a here g idle b here' u view refl refl refl lies m.begun m.epoch l (Writes r w) (said m call (ref_word w) 0)
         (record {
           locals = ap (λ l. slice_set l r w) g.knows.locals;
@@ -81,7 +78,7 @@ module _ (m : Mutating) (a : Stand) (here : ℕ → Bool) (g : Agrees m a here) 
         })
         g.births g.target (length-set m.locals r w ∙ g.width)
         (addresses_made a here d f b here' made g.alloc.good (is_thread m a here g))
-        (record { position = refl; answers = answers; alloc = at.alloc })
+        (record { position = refl; answers = answers_more m call at.under_way (ref_word w) 0; alloc = at.alloc })
 
     -- the reference that was read is an address
     pub referred_small : (r w : ℕ) → r < LOCALS →
@@ -104,7 +101,6 @@ module _ (m : Mutating) (a : Stand) (here : ℕ → Bool) (g : Agrees m a here) 
         let at = calls_at in
         let u : View = logged (quietly (record a.view { header = Some w })) in
         let m' : Mutating = record m { task = Calls call (Some w) } in
-        let way = at.under_way in
         agrees_then m a here g idle b here' u view refl refl refl lies m.begun m.epoch m.locals (Calls call (Some w)) m.log
         (record { locals = g.knows.locals; epoch = g.knows.epoch; log = g.knows.log; begun = g.knows.begun }) g.births g.target g.width
         (addresses_made a here d f b here' made g.alloc.good (is_thread m a here g))
@@ -113,12 +109,7 @@ module _ (m : Mutating) (a : Stand) (here : ℕ → Bool) (g : Agrees m a here) 
           header = refl;
           no_birth = at.no_birth;
           not_alone = at.not_alone;
-          under_way = record {
-            number = way.number;
-            begun = way.begun;
-            is_call = way.is_call;
-            answers = record { calls = way.answers.calls; count = way.answers.count; within = way.answers.within };
-          };
+          under_way = at.under_way;
           alloc = at.alloc;
           object = at.object;
           read = subst (λ x. IsHeaderRead m.heap x (Some w)) (sym field) told;
@@ -132,10 +123,20 @@ module _ {T : Type 0} (stand : T → Stand) (here : T → ℕ → Bool) (did : T
   is_idle : IsIdle m.alloc.stage
   is_idle = subst IsIdle (sym (calls_at m (stand s) (here s) g call h is).alloc) tt
 
+  turn_by : (m' : Mutating) → m'.task ≡ task_by m' (stand s').view → m'.alloc ≡ m.alloc → m'.heap ≡ m.heap → m'.by ≡ m.by →
+      m'.calls ≡ m.calls → Agrees m' (stand s') (here s') → (HasEnded m'.task → ⊥) → (q : Mutating) → q ≡ m' →
+      Goes stand here did moved asks_none m s s' q Moved
+  turn_by m' task alloc heap by calls agrees on q is_q =
+      subst (λ (q : Mutating). Goes stand here did moved asks_none m s s' q Moved) (sym is_q)
+      (goes_by stand here did moved m s s' m' Moved asks_none (Calls call h) is
+      (makes stand here did moved m s s' m' Moved (Calls call h) is d f named made kept task alloc refl) heap by calls agrees
+      (moves_on m'.task on))
+
   pub turn_answers : (reply : Reply) (now locals : List ℕ) → now ≡ locals → length locals ≡ LOCALS →
       view_after (stand s).heap (stand s).by (stand s).view d f ≡
       logged (saying (stand s).by (epoch_in (stand s).view) call reply 0 (record (stand s).view { position = positions.Between; locals = now })) →
-      Goes stand here did moved m s s' (record m { locals = locals; log = said m call reply 0; task = resting_task m }) Moved
+      (q : Mutating) → q ≡ record m { locals = locals; log = said m call reply 0; task = resting_task m } →
+      Goes stand here did moved asks_none m s s' q Moved
   turn_answers reply now locals same width outcome =
       let a : Stand = stand s in
       let u : View = logged (saying a.by (epoch_in a.view) call reply 0 (record a.view { position = positions.Between; locals = now })) in
@@ -144,17 +145,14 @@ module _ {T : Type 0} (stand : T → Stand) (here : T → ℕ → Bool) (did : T
       let agrees : Agrees m' (stand s') (here s') =
       answered_agrees m a (here s) g call h is d f (stand s') (here s') made is_idle lies reply now locals same width view in
       let between : (stand s').view.position ≡ positions.Between = ap (λ (x : Stand). x.view.position) view in
-      goes_by stand here did moved m s s' m' Moved (Calls call h) is
-      (makes stand here did moved m s s' m' Moved (Calls call h) is d f named made kept
-      (sym (ap (task_at (has_left m') (has_single m'.alloc.hands) (stand s').view.header) between))
-      (alloc_rests m.heap (has_left m) (has_single m.alloc.hands) m.alloc m.epoch) refl)
-      (follows m m' (stand s') (here s') refl refl refl agrees) agrees
+      turn_by m' (sym (ap (task_at (has_left m') (has_single m'.alloc.hands) (stand s').view.header) between)) refl refl refl refl agrees
+      (rest_goes_on (has_left m) (has_single m.alloc.hands))
 
   pub turn_refers : (r w : ℕ) →
       view_after (stand s).heap (stand s).by (stand s).view d f ≡
       logged (saying (stand s).by (epoch_in (stand s).view) call (ref_word w) 0
       (record (stand s).view { position = positions.Writing r w 0; locals = slice_set (stand s).view.locals r w })) →
-      Goes stand here did moved m s s' (referred m call r w) Moved
+      (q : Mutating) → q ≡ referred m call r w → Goes stand here did moved asks_none m s s' q Moved
   turn_refers r w outcome =
       let a : Stand = stand s in
       let u : View = logged (saying a.by (epoch_in a.view) call (ref_word w) 0
@@ -164,14 +162,12 @@ module _ {T : Type 0} (stand : T → Stand) (here : T → ℕ → Bool) (did : T
       let agrees : Agrees m' (stand s') (here s') =
       referred_agrees m a (here s) g call h is d f (stand s') (here s') made is_idle lies r w view in
       let writing : (stand s').view.position ≡ positions.Writing r w 0 = ap (λ (x : Stand). x.view.position) view in
-      goes_by stand here did moved m s s' m' Moved (Calls call h) is
-      (makes stand here did moved m s s' m' Moved (Calls call h) is d f named made kept
-      (sym (ap (task_at (has_left m') (has_single m'.alloc.hands) (stand s').view.header) writing)) refl refl)
-      (follows m m' (stand s') (here s') refl refl refl agrees) agrees
+      turn_by m' (sym (ap (task_at (has_left m') (has_single m'.alloc.hands) (stand s').view.header) writing)) refl refl refl refl agrees
+      (λ x. x)
 
   pub turn_goes_on : (w : ℕ) (t : ℕ × ℕ × FieldKind) → h ≡ None → field_of call ≡ Some t → told_kind m.heap w t.1 ≡ Some t.2 →
       view_after (stand s).heap (stand s).by (stand s).view d f ≡ logged (quietly (record (stand s).view { header = Some w })) →
-      Goes stand here did moved m s s' (record m { task = Calls call (Some w) }) Moved
+      (q : Mutating) → q ≡ record m { task = Calls call (Some w) } → Goes stand here did moved asks_none m s s' q Moved
   turn_goes_on w t none field told outcome =
       let a : Stand = stand s in
       let u : View = logged (quietly (record a.view { header = Some w })) in
@@ -182,11 +178,10 @@ module _ {T : Type 0} (stand : T → Stand) (here : T → ℕ → Bool) (did : T
       judged_agrees m a (here s) g call h is d f (stand s') (here s') made is_idle lies w t none field told view in
       let calling : (stand s').view.position ≡ positions.Calling call = ap (λ (x : Stand). x.view.position) view ∙ at.position in
       let header : (stand s').view.header ≡ Some w = ap (λ (x : Stand). x.view.header) view in
-      goes_by stand here did moved m s s' m' Moved (Calls call h) is
-      (makes stand here did moved m s s' m' Moved (Calls call h) is d f named made kept
+      turn_by m'
       (sym (ap (λ p. task_at (has_left m') (has_single m'.alloc.hands) (stand s').view.header p) calling
-      ∙ (ap (λ birth. calling_task birth call (stand s').view.header) at.no_birth ∙ ap (λ x. Calls call x) header))) refl refl)
-      (follows m m' (stand s') (here s') refl refl refl agrees) agrees
+      ∙ (ap (λ birth. calling_task birth call (stand s').view.header) at.no_birth ∙ ap (λ x. Calls call x) header))) refl refl refl refl agrees
+      (λ x. x)
 
   pub turn_small : (r w : ℕ) → r < LOCALS →
       view_after (stand s).heap (stand s).by (stand s).view d f ≡

@@ -22,14 +22,13 @@ use Rattle.kn_rule.specs.Rule.{Rule}
 use Rattle.kn_rule.specs.Steps.{Step, Found, entry_of, epoch_in}
 use Rattle.kn_rule.specs.Views.{State, View}
 use Rattle.kn_steps.specs.Made.{LieAs, Made, Stand}
-use Rattle.kn_keep_heap.proofs.Keeps.{keeps_rule}
+use Rattle.kn_keep_mark.proofs.Keeps.{keeps_rule}
 use Rattle.kn_keep_heap.proofs.SmallWords.{locals_are_addresses, phases_are_small}
 use Rattle.kn_alloc.specs.declared.stage.Stage.TheVariants.{Resting}
 use Rattle.kn_alloc.specs.Agree.{Agrees as AllocAgrees, IsIdle}
-use Rattle.kn_alloc.specs.Keeps.{Keeps}
 use Rattle.kn_alloc.proofs.Agreements.{stays_while_idle}
 use Rattle.kn_mutator.specs.declared.task.Task.{Task}
-use Rattle.kn_mutator.specs.Agree.{Agrees, Answers, AtTask, UnderWay}
+use Rattle.kn_mutator.specs.Agree.{Agrees, HasAnswered, AtTask, UnderWay}
 use Rattle.kn_mutator.specs.After.{resting_task, said}
 use Rattle.kn_mutator.specs.Mutating.{Knows, Mutating}
 use Rattle.kn_mutator.specs.Tasks.{has_left, has_single, rest_task, task_at, task_by}
@@ -86,16 +85,15 @@ length_one_more : (log : List Entry) (entry : Entry) → length (log ++ entry �
 length_one_more [] entry = refl
 length_one_more (e ∷ log) entry = let h = length_one_more log entry in omega (arith, h)
 
-module _ (m : Mutating) (call : Call) (under : UnderWay m call) where
+module _ (m : Mutating) (call : Call) (under : UnderWay m.log m.calls m.begun call) where
   -- the log has room for the answer
   pub has_room : length m.log < length m.calls
   has_room = let l = slice_get_within m.calls under.number call under.is_call in let e = under.answers.count in omega arith
 
   -- the call under way is answered
-  pub answers_more : (reply : Reply) (address : ℕ) (n e : ℕ) (locals : List ℕ) (task : Task) (alloc : Keeps) → n ≡ m.begun →
-      Answers (record m { begun = n; epoch = e; locals = locals; task = task; alloc = alloc; log = said m call reply address }) n
-  answers_more reply address n e locals task alloc is =
-      let number : n ≡ under.number + 1 = is ∙ under.begun in
+  pub answers_more : (reply : Reply) (address : ℕ) → HasAnswered (said m call reply address) m.calls m.begun
+  answers_more reply address =
+      let number : m.begun ≡ under.number + 1 = under.is_last in
       let near = slice_get_within m.calls under.number call under.is_call in
       record {
         calls = calls_of-append m.log _
@@ -107,7 +105,7 @@ module _ (m : Mutating) (call : Call) (under : UnderWay m call) where
       }
 
 -- between two calls
-module _ (m : Mutating) (v : View) (at : v.position ≡ positions.Between) (answers : Answers m m.begun) where
+module _ (m : Mutating) (v : View) (at : v.position ≡ positions.Between) (answers : HasAnswered m.log m.calls m.begun) where
   rest_by : (left single : Bool) → (left ≡ true → m.begun < length m.calls) → (left ≡ false → m.begun ≡ length m.calls) →
       (single ≡ true → has_single m.alloc.hands ≡ true) → m.alloc.stage ≡ Resting → AtTask (rest_task left single) m v
   rest_by false single l n s r = (inl at, record { answers = answers; alloc = subst IsIdle (sym r) tt }, n refl)

@@ -1,219 +1,180 @@
 -- What is made of a phase word that a poll found.
 use Rattle.std.proofs.Common.{◌≡◌, ℕ, zero, suc, List, [], ◌∷◌, ◌+◌, ◌<◌, ◌⊎◌, inl}
-use Rattle.std.proofs.Common.{inr, Bool, true, false, cond, length, Option, Some, None, IsTrue, slice_get}
-use Rattle.std.proofs.Common.{refl, sym, ap, ◌∙◌, subst, arith}
-use Rattle.std.proofs.lemmas.Option.{none-some}
+use Rattle.std.proofs.Common.{inr, Bool, true, false, cond, length, Option, Some, None, slice_get}
+use Rattle.std.proofs.Common.{◌↔◌, refl, sym, ap, ◌∙◌, subst, arith}
 use Rattle.kn_base.specs.Pages.{FrameView}
-use Rattle.kn_base.specs.declared.places.Place.TheVariants.{Phase}
 use Rattle.kn_graph.specs.declared.calls.Call.{Call}
 use Rattle.kn_graph.specs.declared.calls.Reply.{Reply}
 use Rattle.kn_graph.specs.Counts.{makes_object}
 use Rattle.kn_rule.specs.declared.positions.Position.{Position}
 use Rattle.kn_rule.specs.declared.positions.Position.TheVariants as positions
-use Rattle.kn_rule.specs.declared.steps.Action.TheVariants.{LoadsFor}
-use Rattle.kn_rule.specs.declared.steps.Kind.TheVariants.{K1}
+use Rattle.kn_base.specs.declared.places.Place.TheVariants.{Phase}
 use Rattle.kn_rule.specs.Decoding.{phase_of}
 use Rattle.kn_rule.specs.Phases.{is_run, pauses}
-use Rattle.kn_rule.specs.Steps.{Found, Step, does, found}
+use Rattle.kn_rule.specs.Steps.{Found, Step, found}
 use Rattle.kn_steps.specs.declared.turns.Turn.{Turn}
-use Rattle.kn_steps.specs.declared.turns.Turn.TheVariants.{Idle, Moved}
+use Rattle.kn_steps.specs.declared.turns.Turn.TheVariants.{Idle, Moved, Done}
 use Rattle.kn_steps.specs.Made.{Made, Stand}
 use Rattle.kn_mutator.specs.declared.task.Task.{Task}
 use Rattle.kn_mutator.specs.declared.task.Task.TheVariants.{Births, Calls, Enters, Leaves, Polls}
 use Rattle.kn_mutator.specs.After.{answered}
-use Rattle.kn_mutator.specs.Agree.{Agrees, AtTask, HasLeft, Rests}
-use Rattle.kn_mutator.specs.Begun.{BeginsAs, Hears, HearsAs, Requests, alone}
+use Rattle.kn_mutator.specs.Agree.{Agrees, AtTask, HasEnded, HasLeft, Rests}
+use Rattle.kn_mutator.specs.Begun.{BeginsAs, Hears, HearsAs, RequestsCell, alone}
 use Rattle.kn_mutator.specs.Mutating.{Mutating}
-use Rattle.kn_mutator.specs.Tasks.{calling_task, has_left, has_single, idle_at, next_call, polled_answer, polled_task, task_at, task_behind, task_by, task_step}
-use Rattle.kn_mutator.specs.Tasks.{answer_behind}
-use Rattle.kn_mutator.specs.Turns.{IsAllocBehind, MakesStep, Turned, TurnedAt}
-use Rattle.kn_mutator.proofs.Making.{alloc_rests, follows}
-use Rattle.kn_mutator.proofs.Polling.{IsReady, answered_at_once, answered_between, gets, goes_on, left, waited}
-
--- what a poll leaves: the task and the answer are the ones that the phase gives, the allocator is as it was or has begun the
--- request, and what is kept agrees
-pub record Left (m : Mutating) (passed : Bool) (w : ℕ) (m' : Mutating) (reply : Turn) (b : Stand) (here : ℕ → Bool) : Type 0 where
-  pub task : m'.task ≡ polled_task passed w m' b.view
-  pub alloc : IsAllocBehind m.heap m'.task m.alloc m'.epoch m'.alloc
-  pub answer : reply ≡ polled_answer passed w
-  pub agrees : Agrees m' b here
-  pub heap : m'.heap ≡ m.heap
-  pub by : m'.by ≡ m.by
-  pub calls : m'.calls ≡ m.calls
-
-answer_left : (passed : Bool) (w : ℕ) → is_run (phase_of w).code ≡ false → Moved ≡ polled_answer passed w
-answer_left true w e = refl
-answer_left false w e = sym (ap (idle_at w) e)
+use Rattle.kn_mutator.specs.Tasks.{calling_task, has_left, has_single, idle_at, next_call, poll_for, polled_answer, polled_task, task_at, task_by}
+use Rattle.kn_mutator.specs.Turns.{Goes, IsAllocBehind, PollsNext, TurnedAt}
+use Rattle.kn_mutator.proofs.Making.{alloc_rests, goes_by, moves_on, not_done, rest_goes_on}
+use Rattle.kn_mutator.proofs.Polling.{answered_at_once, answered_between, gets, goes_on, left, waited}
 
 there_is_one : (calls : List Call) (n : ℕ) → n < length calls → slice_get calls n ≡ None → ⊥
 there_is_one [] n l e = omega arith
 there_is_one (c ∷ cs) zero l e = cc
 there_is_one (c ∷ cs) (suc n) l e = there_is_one cs n (omega arith) e
 
-module _ (m : Mutating) (a : Stand) (here : ℕ → Bool) (g : Agrees m a here) (p : Position) (ready : IsReady p)
-    (at : Rests m a.view p × HasLeft m) (passed : Bool) (next : Option Call) (is_next : next ≡ next_call m passed) (w : ℕ) (page : FrameView)
-    (b : Stand) (here' : ℕ → Bool) (made : Made a here (does K1 Phase (LoadsFor next)) (found w page) b here') where
-  behind_left : is_run (phase_of w).code ≡ false → (m' : Mutating) → m' ≡ record m { task = Leaves } → Left m passed w m' Moved b here'
-  behind_left run m' e =
-      subst (λ (q : Mutating). Left m passed w q Moved b here') (sym e) (record {
-        task = sym (ap (λ r. cond r (cond passed (task_by (record m { task = Leaves }) b.view) Polls) Leaves) run);
-        alloc = refl;
-        answer = answer_left passed w run;
-        agrees = left m a here g p ready at next (found w page) b here' made run;
-        heap = refl;
-        by = refl;
-        calls = refl;
-      })
+-- the turn of a poll that the gate answered so, by a caller that stands at p
+module _ {T : Type 0} (stand : T → Stand) (here : T → ℕ → Bool) (did : T → Step → Found → T → Type 0)
+    (moved : T → ℕ → Option FrameView → Option FrameView → T → Type 0) (told : ℕ → ℕ → Bool → Type 0) (m : Mutating) (s s' : T)
+    (g : Agrees m (stand s) (here s)) (w : ℕ) (page : FrameView) (p : Position) (ready : (p ≡ positions.Entering) ⊎ (p ≡ positions.Between))
+    (at : Rests m (stand s).view p × HasLeft m) (t : Task) (is : m.task ≡ t)
+    (turned : (m' : Mutating) (reply : Turn) → PollsNext stand here did moved told m s s' m' reply →
+    TurnedAt stand here did moved t told m s s' m' reply) where
+  abbrev b : Stand
+  b = stand s'
+
+  module _ (passed : Bool) (asked : told m.by m.begun passed)
+      (made : Made (stand s) (here s) (poll_for (next_call m passed)) (found w page) b (here s'))
+      (kept : did s (poll_for (next_call m passed)) (found w page) s') where
+    goes_so : (m' : Mutating) (reply : Turn) → m'.task ≡ polled_task passed w m' b.view → IsAllocBehind m.heap m'.task m.alloc m'.epoch m'.alloc →
+        reply ≡ polled_answer passed w → m'.heap ≡ m.heap → m'.by ≡ m.by → m'.calls ≡ m.calls → Agrees m' b (here s') →
+        ((reply ≡ Done) ↔ HasEnded m'.task) → (q : Mutating) → q ≡ m' → Goes stand here did moved told m s s' q reply
+    goes_so m' reply task alloc answer heap by calls agrees done q is_q =
+        subst (λ (q : Mutating). Goes stand here did moved told m s s' q reply) (sym is_q)
+        (goes_by stand here did moved m s s' m' reply told t is
+        (turned m' reply (record {
+          passed = passed;
+          asked = asked;
+          found = found w page;
+          made = made;
+          kept = kept;
+          task = task;
+          alloc = alloc;
+          answer = answer;
+        }))
+        heap by calls agrees done)
+
+    -- in no run phase
+    behind_left : is_run (phase_of w).code ≡ false → (q : Mutating) → q ≡ record m { task = Leaves } →
+        Goes stand here did moved told m s s' q Moved
+    behind_left run =
+        let m' : Mutating = record m { task = Leaves } in
+        goes_so m' Moved (sym (ap (λ r. cond r (cond passed (task_by m' b.view) Polls) Leaves) run)) refl (stays passed) refl refl refl
+        (left m (stand s) (here s) g p ready at (next_call m passed) (found w page) b (here s') made run) (moves_on Leaves (λ x. x))
+      where
+        stays : (passed : Bool) → Moved ≡ polled_answer passed w
+        stays true = refl
+        stays false = sym (ap (idle_at w) run)
 
   module _ (run : is_run (phase_of w).code ≡ true) where
-    gate_shut : next ≡ None → (q : Bool) → passed ≡ q → passed ≡ false
-    gate_shut none true e =
-        absurd (there_is_one m.calls m.begun at.1 (sym (ap (next_call m) e) ∙ (sym is_next ∙ none)))
-    gate_shut none false e = e
+    -- the gate let no call pass
+    behind_none : told m.by m.begun false → Made (stand s) (here s) (poll_for None) (found w page) b (here s') →
+        did s (poll_for None) (found w page) s' → (q : Mutating) → q ≡ record m { epoch = pauses (phase_of w); task = Polls } →
+        Goes stand here did moved told m s s' q (Idle Phase w)
+    behind_none asked made kept =
+        let m' : Mutating = record m { epoch = pauses (phase_of w); task = Polls } in
+        goes_so false asked made kept m' (Idle Phase w) (sym (ap (λ r. cond r Polls Leaves) run)) refl (sym (ap (idle_at w) run)) refl refl refl
+        (waited m (stand s) (here s) g p ready at None (found w page) b (here s') made run (pauses (phase_of w)) refl refl)
+        (not_done (Idle Phase w) Polls (λ e. cc) (λ x. x))
 
-    behind_none : next ≡ None → (m' : Mutating) → m' ≡ record m { epoch = pauses (phase_of w); task = Polls } →
-        Left m passed w m' (Idle Phase w) b here'
-    behind_none none m' e =
-        let shut = gate_shut none passed refl in
-        let new : Mutating = record m { epoch = pauses (phase_of w); task = Polls } in
-        subst (λ (q : Mutating). Left m passed w q (Idle Phase w) b here') (sym e) (record {
-          task = sym ((λ t. cond (run t) (cond (shut t) (task_by new b.view) Polls) Leaves));
-          alloc = refl;
-          answer = sym (λ t. cond (shut t) Moved (idle_at w (run t)));
-          agrees = waited m a here g p ready at next (found w page) b here' made run (pauses (phase_of w)) refl none;
-          heap = refl;
-          by = refl;
-          calls = refl;
-        })
+    -- it let this call pass
+    module _ (call : Call) (is_call : slice_get m.calls m.begun ≡ Some call) (asked : told m.by m.begun true)
+        (made : Made (stand s) (here s) (poll_for (slice_get m.calls m.begun)) (found w page) b (here s'))
+        (kept : did s (poll_for (slice_get m.calls m.begun)) (found w page) s') where
+      task_through : (m' : Mutating) → task_by m' b.view ≡ polled_task true w m' b.view
+      task_through m' = sym (ap (λ r. cond r (task_by m' b.view) Leaves) run)
 
-    module _ (call : Call) (some : next ≡ Some call) where
-      gate_open : (q : Bool) → passed ≡ q → passed ≡ true
-      gate_open true e = e
-      gate_open false e = absurd (none-some call (sym (ap (next_call m) e) ∙ (sym is_next ∙ some)))
-
-      let_through : passed ≡ true
-      let_through = gate_open passed refl
-
-      is_call : slice_get m.calls m.begun ≡ Some call
-      is_call = sym (ap (next_call m) let_through) ∙ (sym is_next ∙ some)
-
-      task_through : (m' : Mutating) → task_by m' b.view ≡ polled_task passed w m' b.view
-      task_through m' = sym (λ t. cond (run t) (cond (let_through t) (task_by m' b.view) Polls) Leaves)
-
-      answer_through : Moved ≡ polled_answer passed w
-      answer_through = sym (ap (λ q. cond q Moved (idle_at w (is_run (phase_of w).code))) let_through)
-
-      behind_answer : (reply : Reply) → alone (record m { epoch = pauses (phase_of w) }) call ≡ Some reply → (m' : Mutating) →
-          m' ≡ answered (record m { epoch = pauses (phase_of w); begun = m.begun + 1 }) call reply 0 → Left m passed w m' Moved b here'
-      behind_answer reply e m' is =
-          let new : Mutating = answered (record m { epoch = pauses (phase_of w); begun = m.begun + 1 }) call reply 0 in
-          let agrees : Agrees new b here' =
-          answered_at_once m a here g p ready at next (found w page) b here' made run (pauses (phase_of w)) refl call some is_call reply e in
+      behind_answer : (reply : Reply) → alone (record m { epoch = pauses (phase_of w) }) call ≡ Some reply → (q : Mutating) →
+          q ≡ answered (record m { epoch = pauses (phase_of w); begun = m.begun + 1 }) call reply → Goes stand here did moved told m s s' q Moved
+      behind_answer reply e =
+          let m' : Mutating = answered (record m { epoch = pauses (phase_of w); begun = m.begun + 1 }) call reply in
           let between : b.view.position ≡ positions.Between =
-          answered_between m a here g p ready at next (found w page) b here' made run (pauses (phase_of w)) refl call some is_call reply e in
-          subst (λ (q : Mutating). Left m passed w q Moved b here') (sym is) (record {
-            task = sym (ap (task_at (has_left new) (has_single new.alloc.hands) b.view.header) between) ∙ task_through new;
-            alloc = alloc_rests m.heap (has_left new) (has_single m.alloc.hands) m.alloc (pauses (phase_of w));
-            answer = answer_through;
-            agrees = agrees;
-            heap = refl;
-            by = refl;
-            calls = refl;
-          })
+          answered_between m (stand s) (here s) g p ready at (slice_get m.calls m.begun) (found w page) b (here s') made run (pauses (phase_of w)) refl
+          call is_call is_call reply e in
+          goes_so true asked made kept m' Moved
+          (sym (ap (task_at (has_left m') (has_single m'.alloc.hands) b.view.header) between) ∙ task_through m')
+          (alloc_rests m.heap (has_left m') (has_single m.alloc.hands) m.alloc (pauses (phase_of w))) refl refl refl refl
+          (answered_at_once m (stand s) (here s) g p ready at (slice_get m.calls m.begun) (found w page) b (here s') made run (pauses (phase_of w)) refl
+          call is_call is_call reply e)
+          (moves_on m'.task (rest_goes_on (has_left m') (has_single m'.alloc.hands)))
 
       calling_is : (m' : Mutating) (h : Option ℕ) → b.view.position ≡ positions.Calling call → b.view.header ≡ h →
           calling_task (makes_object call) call h ≡ task_by m' b.view
       calling_is m' h e eh = sym (λ t. task_at (has_left m') (has_single m'.alloc.hands) (eh t) (e t))
 
-      behind_call : alone (record m { epoch = pauses (phase_of w) }) call ≡ None → makes_object call ≡ false → (m' : Mutating) →
-          m' ≡ record m { epoch = pauses (phase_of w); begun = m.begun + 1; task = Calls call None } → Left m passed w m' Moved b here'
-      behind_call e birth m' is =
-          let new : Mutating = record m { epoch = pauses (phase_of w); begun = m.begun + 1; task = Calls call None } in
-          let agrees : Agrees new b here' =
-          goes_on m a here g p ready at next (found w page) b here' made run (pauses (phase_of w)) refl call some is_call e birth in
-          subst (λ (q : Mutating). Left m passed w q Moved b here') (sym is) (record {
-            task = sym (ap (λ q. calling_task q call None) birth) ∙ (calling_is new None agrees.at.position agrees.at.header ∙ task_through new);
-            alloc = refl;
-            answer = answer_through;
-            agrees = agrees;
-            heap = refl;
-            by = refl;
-            calls = refl;
-          })
+      behind_call : alone (record m { epoch = pauses (phase_of w) }) call ≡ None → makes_object call ≡ false → (q : Mutating) →
+          q ≡ record m { epoch = pauses (phase_of w); begun = m.begun + 1; task = Calls call None } → Goes stand here did moved told m s s' q Moved
+      behind_call e birth =
+          let m' : Mutating = record m { epoch = pauses (phase_of w); begun = m.begun + 1; task = Calls call None } in
+          let agrees : Agrees m' b (here s') =
+          goes_on m (stand s) (here s) g p ready at (slice_get m.calls m.begun) (found w page) b (here s') made run (pauses (phase_of w)) refl
+          call is_call is_call e birth in
+          goes_so true asked made kept m' Moved
+          (sym (ap (λ q. calling_task q call None) birth) ∙ (calling_is m' None agrees.at.position agrees.at.header ∙ task_through m'))
+          refl refl refl refl refl agrees (moves_on (Calls call None) (λ x. x))
 
-      behind_birth : alone (record m { epoch = pauses (phase_of w) }) call ≡ None → (m' : Mutating) →
-          Requests (record m { epoch = pauses (phase_of w) }) call m' → Left m passed w m' Moved b here'
-      behind_birth e m' r =
-          let new : Mutating = record m { epoch = pauses (phase_of w); begun = m.begun + 1; task = Births call; alloc = r.alloc } in
-          let agrees : Agrees new b here' = subst (λ (q : Mutating). Agrees q b here') r.after
-          (gets m a here g p ready at next (found w page) b here' made run (pauses (phase_of w)) refl call some is_call e m' r) in
-          subst (λ (q : Mutating). Left m passed w q Moved b here') (sym r.after) (record {
-            task = sym (ap (λ q. calling_task q call b.view.header) r.birth)
-                ∙ (calling_is new b.view.header agrees.at.position refl ∙ task_through new);
-            alloc = (r.words, r.asked, r.starts);
-            answer = answer_through;
-            agrees = agrees;
-            heap = refl;
-            by = refl;
-            calls = refl;
-          })
+      behind_birth : alone (record m { epoch = pauses (phase_of w) }) call ≡ None → (q : Mutating) →
+          RequestsCell (record m { epoch = pauses (phase_of w) }) call q → Goes stand here did moved told m s s' q Moved
+      behind_birth e q r =
+          let m' : Mutating = record m { epoch = pauses (phase_of w); begun = m.begun + 1; task = Births call; alloc = r.alloc } in
+          let agrees : Agrees m' b (here s') = subst (λ (q : Mutating). Agrees q b (here s')) r.after
+          (gets m (stand s) (here s) g p ready at (slice_get m.calls m.begun) (found w page) b (here s') made run (pauses (phase_of w)) refl
+          call is_call is_call e q r) in
+          goes_so true asked made kept m' Moved
+          (sym (ap (λ q. calling_task q call b.view.header) r.birth) ∙ (calling_is m' b.view.header agrees.at.position refl ∙ task_through m'))
+          (r.words, r.asked, r.starts) refl refl refl refl agrees (moves_on (Births call) (λ x. x)) q r.after
 
       behind_some : (r : Option Reply) → alone (record m { epoch = pauses (phase_of w) }) call ≡ r → (birth : Bool) → makes_object call ≡ birth →
-          (m' : Mutating) → BeginsAs (record m { epoch = pauses (phase_of w) }) call r birth m' → Left m passed w m' Moved b here'
-      behind_some (Some reply) e birth eb m' is = behind_answer reply e m' is
-      behind_some None e true eb m' r = behind_birth e m' r
-      behind_some None e false eb m' is = behind_call e eb m' is
+          (q : Mutating) → BeginsAs (record m { epoch = pauses (phase_of w) }) call r birth q → Goes stand here did moved told m s s' q Moved
+      behind_some (Some reply) e birth eb q is = behind_answer reply e q is
+      behind_some None e true eb q r = behind_birth e q r
+      behind_some None e false eb q is = behind_call e eb q is
 
-  behind_run : (o : Option Call) → next ≡ o → is_run (phase_of w).code ≡ true → (m' : Mutating) (reply : Turn) → HearsAs m true o w m' reply →
-      Left m passed w m' reply b here'
-  behind_run None e run m' reply h = subst (λ r. Left m passed w m' r b here') (sym h.1) (behind_none run e m' h.0)
-  behind_run (Some call) e run m' reply h =
-      subst (λ r. Left m passed w m' r b here') (sym h.1)
-      (behind_some run call e (alone (record m { epoch = pauses (phase_of w) }) call) refl (makes_object call) refl m' h.0)
+    behind_open : (o : Option Call) → slice_get m.calls m.begun ≡ o → told m.by m.begun true →
+        Made (stand s) (here s) (poll_for (slice_get m.calls m.begun)) (found w page) b (here s') →
+        did s (poll_for (slice_get m.calls m.begun)) (found w page) s' → (q : Mutating) (reply : Turn) → HearsAs m true o w q reply →
+        Goes stand here did moved told m s s' q reply
+    behind_open None e asked made kept q reply h = absurd (there_is_one m.calls m.begun at.1 e)
+    behind_open (Some call) e asked made kept q reply h =
+        subst (λ r. Goes stand here did moved told m s s' q r) (sym h.1)
+        (behind_some call e asked made kept (alone (record m { epoch = pauses (phase_of w) }) call) refl (makes_object call) refl q h.0)
 
-  behind : (run : Bool) → is_run (phase_of w).code ≡ run → (m' : Mutating) (reply : Turn) → HearsAs m run next w m' reply →
-      Left m passed w m' reply b here'
-  behind true e m' reply h = behind_run next refl e m' reply h
-  behind false e m' reply h = subst (λ r. Left m passed w m' r b here') (sym h.1) (behind_left e m' h.0)
+  -- by what the phase is
+  behind : (run : Bool) → is_run (phase_of w).code ≡ run → (passed : Bool) → told m.by m.begun passed →
+      Made (stand s) (here s) (poll_for (next_call m passed)) (found w page) b (here s') →
+      did s (poll_for (next_call m passed)) (found w page) s' → (q : Mutating) (reply : Turn) → HearsAs m run (next_call m passed) w q reply →
+      Goes stand here did moved told m s s' q reply
+  behind false e passed asked made kept q reply h =
+      subst (λ r. Goes stand here did moved told m s s' q r) (sym h.1) (behind_left passed asked made kept e q h.0)
+  behind true e true asked made kept q reply h = behind_open e (slice_get m.calls m.begun) refl asked made kept q reply h
+  behind true e false asked made kept q reply h =
+      subst (λ r. Goes stand here did moved told m s s' q r) (sym h.1) (behind_none e asked made kept q h.0)
 
-  pub left_by : (m' : Mutating) (reply : Turn) → Hears m next w m' reply → Left m passed w m' reply b here'
-  left_by m' reply h = behind (is_run (phase_of w).code) refl m' reply h
-
--- the turn of a poll
+-- the turn of a poll by the mutator m, whose number and count of calls n has
 module _ {T : Type 0} (stand : T → Stand) (here : T → ℕ → Bool) (did : T → Step → Found → T → Type 0)
-    (moved : T → ℕ → Option FrameView → Option FrameView → T → Type 0) (lets_all : Type 0) (m : Mutating) (s s' : T)
-    (g : Agrees m (stand s) (here s)) (passed : Bool) (through : lets_all → IsTrue passed) (next : Option Call) (is_next : next ≡ next_call m passed)
-    (w : ℕ) (page : FrameView) (made : Made (stand s) (here s) (does K1 Phase (LoadsFor next)) (found w page) (stand s') (here s'))
-    (kept : did s (does K1 Phase (LoadsFor next)) (found w page) s') (m' : Mutating) (reply : Turn) (h : Hears m next w m' reply) where
-  at_task : (t : Task) → m.task ≡ t → AtTask t m (stand s).view
-  at_task t e = subst (λ t. AtTask t m (stand s).view) e g.at
+    (moved : T → ℕ → Option FrameView → Option FrameView → T → Type 0) (told : ℕ → ℕ → Bool → Type 0) (n m : Mutating) (same : n ≡ m)
+    (s s' : T) (g : Agrees m (stand s) (here s)) (passed : Bool) (asked : told n.by n.begun passed) (next : Option Call)
+    (is_next : next ≡ next_call m passed) (w : ℕ) (page : FrameView)
+    (made : Made (stand s) (here s) (poll_for next) (found w page) (stand s') (here s')) (kept : did s (poll_for next) (found w page) s')
+    (q : Mutating) (reply : Turn) (h : Hears m next w q reply) where
+  heard_at : (t : Task) → m.task ≡ t → (p : Position) → ((p ≡ positions.Entering) ⊎ (p ≡ positions.Between)) →
+      Rests m (stand s).view p × HasLeft m →
+      ((m' : Mutating) (reply : Turn) → PollsNext stand here did moved told m s s' m' reply → TurnedAt stand here did moved t told m s s' m' reply) →
+      Goes stand here did moved told m s s' q reply
+  heard_at t is p ready at turned =
+      behind stand here did moved told m s s' g w page p ready at t is turned (is_run (phase_of w).code) refl passed
+      (subst (λ (m : Mutating). told m.by m.begun passed) same asked)
+      (subst (λ x. Made (stand s) (here s) (poll_for x) (found w page) (stand s') (here s')) is_next made)
+      (subst (λ x. did s (poll_for x) (found w page) s') is_next kept) q reply (subst (λ x. Hears m x w q reply) is_next h)
 
-  heard_at : (t : Task) → m.task ≡ t → (p : Position) → IsReady p → Rests m (stand s).view p × HasLeft m →
-      task_step m passed t ≡ Some (does K1 Phase (LoadsFor (next_call m passed))) →
-      task_behind t passed w m' (stand s').view ≡ polled_task passed w m' (stand s').view → answer_behind t passed w ≡ polled_answer passed w →
-      (MakesStep stand here did moved lets_all m s s' m' reply → TurnedAt stand here did moved t lets_all m s s' m' reply) →
-      Turned stand here did moved lets_all m s s' m' reply × Agrees m' (stand s') (here s')
-  heard_at t e p ready at named task answer turned =
-      let l = left_by m (stand s) (here s) g p ready at passed next is_next w page (stand s') (here s') made m' reply h in (
-        (
-          follows m m' (stand s') (here s') l.heap l.by l.calls l.agrees,
-          subst (λ t. TurnedAt stand here did moved t lets_all m s s' m' reply) (sym e)
-              (turned (record {
-                passed = passed;
-                through = through;
-                step = does K1 Phase (LoadsFor next);
-                found = found w page;
-                named = ap (task_step m passed) e ∙ (named ∙ sym (ap (λ n. Some (does K1 Phase (LoadsFor n))) is_next));
-                made = made;
-                kept = kept;
-                task = l.task ∙ (sym task ∙ sym (ap (λ t. task_behind t passed w m' (stand s').view) e));
-                alloc = l.alloc;
-                answer = l.answer ∙ (sym answer ∙ sym (ap (λ t. answer_behind t passed w) e));
-              })),
-        ),
-        l.agrees,
-      )
-
-  pub heard : (m.task ≡ Enters) ⊎ (m.task ≡ Polls) → Turned stand here did moved lets_all m s s' m' reply × Agrees m' (stand s') (here s')
-  heard (inl e) = heard_at Enters e positions.Entering tt (at_task Enters e) refl refl refl (λ x. x)
-  heard (inr e) = heard_at Polls e positions.Between tt (at_task Polls e) refl refl refl (λ x. x)
+  pub heard : (m.task ≡ Enters) ⊎ (m.task ≡ Polls) → Goes stand here did moved told m s s' q reply
+  heard (inl e) = heard_at Enters e positions.Entering (inl refl) (subst (λ t. AtTask t m (stand s).view) e g.at) (λ m' reply x. x)
+  heard (inr e) = heard_at Polls e positions.Between (inr refl) (subst (λ t. AtTask t m (stand s).view) e g.at) (λ m' reply x. x)

@@ -11,7 +11,6 @@ use Rattle.kn_graph.specs.Arguments.{IsInRange}
 use Rattle.kn_graph.specs.Counts.{births_among}
 use Rattle.kn_graph.specs.Ground.{Ground, IsGoodGround}
 use Rattle.kn_graph.specs.Logs.{calls_of}
-use Rattle.kn_rule.specs.Allowed.{IsBuilt}
 use Rattle.kn_rule.specs.Decoding.{phase_of}
 use Rattle.kn_rule.specs.Rule.{fresh}
 use Rattle.kn_rule.specs.Steps.{epoch_in}
@@ -19,8 +18,10 @@ use Rattle.kn_script.specs.Good.{IsGoodScript}
 use Rattle.kn_script.specs.Scripts.{Scripted, counts_of, ground_of}
 use Rattle.kn_script.proofs.GoodLemmas.{All-at}
 use Rattle.kn_alloc.proofs.Agreements.{opens}
-use Rattle.kn_mutator.specs.Agree.{Agrees, Answers, AtTask, Planned}
-use Rattle.kn_mutator.specs.Mutating.{Mutating, first_task, new_mutating}
+use Rattle.kn_view.specs.Parts.{ground_of as ground_with}
+use Rattle.kn_layout.specs.declared.layouts.Layout.{Layout}
+use Rattle.kn_mutator.specs.Agree.{Agrees, HasAnswered, AtTask, Planned}
+use Rattle.kn_mutator.specs.Mutating.{IsMade, Mutating, first_task, new_mutating}
 
 -- the count of a thread
 counts_at : (count : List Call → ℕ) (n : ℕ) (threads : List (List Call)) (i : ℕ) → i < n → i < length threads →
@@ -36,6 +37,13 @@ pub calls_read : (threads there : List (List Call)) (k i : ℕ) (calls : List Ca
 calls_read threads there k i calls less same at read =
     let e : calls ≡ slice_index_or there i calls = read ∙ λ t. slice_index_or (same t) (at t) calls in
     sym (get_or_from_slice_get there i calls [] (slice_get_read there (length there) i calls refl less e))
+
+-- the heap of a script whose layouts were copied
+pub ground_read : (x s : Scripted) → x ≡ s → (copies read : List Layout) → copies ≡ read → read ≡ x.layouts →
+    ground_with x.sizes copies ≡ ground_of s
+ground_read x s same copies read copied layouts =
+    let is : copies ≡ s.layouts = copied ∙ (layouts ∙ ap (λ (s : Scripted). s.layouts) same) in
+    λ t. record { sizes = (same t).sizes; layouts = is t }
 
 small_at : (n r : ℕ) → slice_index (replicate n 0) r ≤ 1000000
 small_at zero r = omega arith
@@ -76,17 +84,17 @@ module _ (s : Scripted) (i : ℕ) (good : IsGoodScript s) (there : i < length s.
       let e = calls_are in
       omega arith
 
-  planned : AllByRecursion IsBuilt calls → Planned (ground_of s) i calls
+  planned : AllByRecursion IsMade calls → Planned (ground_of s) i calls
   planned built = record {
     good = good_ground;
     thread = near;
     calls_are = calls_are;
     births_are = births_are;
-    built = built;
+    made = built;
     in_range = All-at (AllByRecursion (IsInRange (ground_of s))) s.threads i [] good.calls tt;
   }
 
-  no_answers : (m : Mutating) → m.begun ≡ 0 → m.log ≡ [] → Answers m m.begun
+  no_answers : (m : Mutating) → m.begun ≡ 0 → m.log ≡ [] → HasAnswered m.log m.calls m.begun
   no_answers m begun log = record {
     calls = ap calls_of log ∙ sym (ap (λ n. take n m.calls) begun);
     count = ap length log ∙ sym begun;
@@ -100,7 +108,7 @@ module _ (s : Scripted) (i : ℕ) (good : IsGoodScript s) (there : i < length s.
     omega arith,
   )
 
-  pub opened : AllByRecursion IsBuilt calls → (here : ℕ → Bool) →
+  pub opened : AllByRecursion IsMade calls → (here : ℕ → Bool) →
       Agrees (new_mutating (ground_of s) i calls) (record { heap = ground_of s; by = i; view = fresh (ground_of s) }) here
   opened built here = record {
     alloc = opens (ground_of s) i here good_ground near;

@@ -19,9 +19,9 @@ use Rattle.kn_rule.specs.declared.positions.Position.{Position}
 use Rattle.kn_rule.specs.declared.positions.Position.TheVariants as positions
 use Rattle.kn_rule.specs.declared.steps.Action.TheVariants.{LoadsFor}
 use Rattle.kn_rule.specs.declared.steps.Kind.TheVariants.{K1}
-use Rattle.kn_rule.specs.Allowed.{MayBegin, MayNext, MayPoll, MayPollAt}
+use Rattle.kn_rule.specs.Allowed.{MayBegin, MayNext, MayPoll, MayPollAt, MayEnterFor}
 use Rattle.kn_rule.specs.Decoding.{phase_of}
-use Rattle.kn_rule.specs.Outcomes.{begin_with, poll_at, poll_run, view_answer, with_call}
+use Rattle.kn_rule.specs.Outcomes.{begin_with, poll_at, poll_run, view_answer, with_call, enters_for}
 use Rattle.kn_rule.specs.Phases.{is_run, pauses}
 use Rattle.kn_rule.specs.Requests.{birth_of, field_of, header_for}
 use Rattle.kn_rule.specs.Rule.{fresh}
@@ -34,8 +34,9 @@ use Rattle.kn_mutator.specs.declared.task.Task.{Task}
 use Rattle.kn_mutator.specs.declared.task.Task.TheVariants.{Births, Calls, Enters, Leaves, Polls}
 use Rattle.kn_mutator.specs.Agree.{Agrees, AtTask, HasLeft, IsHeaderRead, IsObjectIn, Rests, UnderWay}
 use Rattle.kn_mutator.specs.After.{answered, resting_task, said}
-use Rattle.kn_mutator.specs.Begun.{Requests, alone}
-use Rattle.kn_mutator.specs.Mutating.{Knows, Mutating}
+use Rattle.kn_mutator.specs.Begun.{RequestsCell, alone}
+use Rattle.kn_mutator.proofs.Built.{made_built}
+use Rattle.kn_mutator.specs.Mutating.{IsMade, Knows, Mutating}
 use Rattle.kn_mutator.specs.Tasks.{next_call}
 use Rattle.kn_mutator.proofs.Core.{addresses_made, agrees_then, all_get, alloc_then, answers_more, by_is, is_thread, rest_at, take_one_more}
 
@@ -68,12 +69,6 @@ births_more all n call e =
     let more : births_among (take (n + 1) all) ≡ births_among (take n all ++ call ∷ []) = ap births_among (take_one_more all n call e) in
     omega (arith, both, last, none, more)
 
--- who may poll for a call: one that is entering, and one between calls
-abbrev pub IsReady : Position → Type 0
-IsReady positions.Entering = Unit {0}
-IsReady positions.Between = Unit {0}
-IsReady _ = ⊥
-
 -- a view alone answers by its locals
 same_alone : (z : Ground) (v u : View) (call : Call) → v.locals ≡ u.locals → view_answer z v call ≡ view_answer z u call
 same_alone z v u (calls.New r l) e = refl
@@ -102,15 +97,15 @@ nothing_read : (z : Ground) (field : Option (ℕ × ℕ × FieldKind)) → IsHea
 nothing_read z None = tt
 nothing_read z (Some t) = tt
 
-module _ (m : Mutating) (a : Stand) (here : ℕ → Bool) (g : Agrees m a here) (p : Position) (ready : IsReady p)
-    (at : Rests m a.view p × HasLeft m) where
+module _ (m : Mutating) (a : Stand) (here : ℕ → Bool) (g : Agrees m a here) (p : Position)
+    (ready : (p ≡ positions.Entering) ⊎ (p ≡ positions.Between)) (at : Rests m a.view p × HasLeft m) where
   -- the poll is allowed
   may_begin : (call : Call) → slice_get m.calls m.begun ≡ Some call → MayBegin a.heap a.by a.view here call
   may_begin call e =
       let left : m.begun < length m.calls = at.1 in
       let births = births_after m.calls m.begun call e in
       record {
-        built = all_get Rattle.kn_rule.specs.Allowed.IsBuilt m.calls m.begun call g.planned.built e;
+        built = made_built call (all_get IsMade m.calls m.begun call g.planned.made e);
         in_range = subst (λ z. Rattle.kn_graph.specs.Arguments.IsInRange z call) (sym g.heap)
             (all_get (Rattle.kn_graph.specs.Arguments.IsInRange m.heap) m.calls m.begun call g.planned.in_range e);
         call_left = subst (λ n. n < slice_index a.heap.sizes.calls a.by) (sym g.knows.begun)
@@ -132,10 +127,11 @@ module _ (m : Mutating) (a : Stand) (here : ℕ → Bool) (g : Agrees m a here) 
   may_next None h = tt
   may_next (Some call) h = may_begin call (h call refl)
 
-  may_at : (q : Position) → IsReady q → (next : Option Call) → MayNext a.heap a.by a.view here next → MayPollAt a.heap a.by a.view here q next
-  may_at positions.Entering r next n = (g.target, n)
-  may_at positions.Between r next n = (g.target, n)
-  may_at _ r next n = absurd r
+  may_at : (p ≡ positions.Entering) ⊎ (p ≡ positions.Between) → (next : Option Call) → MayNext a.heap a.by a.view here next →
+      MayPollAt a.heap a.by a.view here p next
+  may_at (inl e) next n =
+      subst (λ q. MayPollAt a.heap a.by a.view here q next) (sym e) (subst (λ t. MayEnterFor a.heap a.by a.view here t next) (sym g.target) n)
+  may_at (inr e) next n = subst (λ q. MayPollAt a.heap a.by a.view here q next) (sym e) (g.target, n)
 
   next_is : (passed : Bool) (call : Call) → next_call m passed ≡ Some call → slice_get m.calls m.begun ≡ Some call
   next_is true call e = e
@@ -148,7 +144,7 @@ module _ (m : Mutating) (a : Stand) (here : ℕ → Bool) (g : Agrees m a here) 
     act = refl;
     thread = is_thread m a here g;
     may = subst (λ q. MayPollAt a.heap a.by a.view here q next) (sym at.0.position)
-        (may_at p ready next (may_next next (λ call is. next_is passed call (sym e ∙ is))));
+        (may_at ready next (may_next next (λ call is. next_is passed call (sym e ∙ is))));
   }
 
   module _ (next : Option Call) (f : Found) (b : Stand) (here' : ℕ → Bool) (made : Made a here (does K1 Phase (LoadsFor next)) f b here') where
@@ -165,43 +161,44 @@ module _ (m : Mutating) (a : Stand) (here : ℕ → Bool) (g : Agrees m a here) 
     idle = subst IsIdle (sym at.0.alloc) tt
 
     -- in no run phase it goes out
-    left_at : (q : Position) → IsReady q → b ≡ record a { view = logged (poll_at a.heap a.by a.view Phase (LoadsFor next) f q false next) } →
-        a.view.position ≡ q → Agrees (record m { task = Leaves }) b here'
-    left_at positions.Entering r e is =
-        agrees_then m a here g idle b here' a.view e refl refl refl made.lies m.begun m.epoch m.locals Leaves m.log
-        (record { locals = g.knows.locals; epoch = g.knows.epoch; log = g.knows.log; begun = g.knows.begun }) g.births g.target g.width small (
-          inr is,
+    leaves_with : (u : View) → b ≡ record a { view = u } → u.owned ≡ a.view.owned → u.taken ≡ a.view.taken → u.sweep ≡ a.view.sweep →
+        Knows (record m { task = Leaves }) u → u.births ≡ births_among (take m.begun m.calls) → u.target ≡ None →
+        ((u.position ≡ positions.Leaving) ⊎ (u.position ≡ positions.Entering)) → Agrees (record m { task = Leaves }) b here'
+    leaves_with u view owned taken sweep knows births target position =
+        agrees_then m a here g idle b here' u view owned taken sweep made.lies m.begun m.epoch m.locals Leaves m.log knows births target g.width small (
+          position,
           record {
-            answers = record { calls = at.0.answers.calls; count = at.0.answers.count; within = at.0.answers.within };
+            answers = at.0.answers;
             alloc = idle;
           },
           at.1,
         )
-    left_at positions.Between r e is =
-        agrees_then m a here g idle b here' (record a.view { position = positions.Leaving }) e refl refl refl made.lies m.begun m.epoch m.locals
-        Leaves m.log
-        (record { locals = g.knows.locals; epoch = g.knows.epoch; log = g.knows.log; begun = g.knows.begun }) g.births g.target g.width small (
-          inl refl,
-          record {
-            answers = record { calls = at.0.answers.calls; count = at.0.answers.count; within = at.0.answers.within };
-            alloc = idle;
-          },
-          at.1,
-        )
-    left_at _ r e is = absurd r
+
+    left_at : (p ≡ positions.Entering) ⊎ (p ≡ positions.Between) →
+        b ≡ record a { view = logged (poll_at a.heap a.by a.view Phase (LoadsFor next) f p false next) } → Agrees (record m { task = Leaves }) b here'
+    left_at (inl e) view =
+        leaves_with a.view (view ∙ λ t. record a { view = logged (poll_at a.heap a.by a.view Phase (LoadsFor next) f (e t) false next) }) refl refl
+        refl (record { locals = g.knows.locals; epoch = g.knows.epoch; log = g.knows.log; begun = g.knows.begun }) g.births g.target
+        (inr (at.0.position ∙ e))
+    left_at (inr e) view =
+        leaves_with (record a.view { position = positions.Leaving })
+        (view ∙ λ t. record a { view = logged (poll_at a.heap a.by a.view Phase (LoadsFor next) f (e t) false next) }) refl refl
+        refl (record { locals = g.knows.locals; epoch = g.knows.epoch; log = g.knows.log; begun = g.knows.begun }) g.births g.target (inl refl)
 
     pub left : is_run (phase_of f.word).code ≡ false → Agrees (record m { task = Leaves }) b here'
-    left e = left_at p ready (polled_view false e) at.0.position
+    left e = left_at ready (polled_view false e)
 
-    run_view : (q : Position) → IsReady q → b ≡ record a { view = logged (poll_at a.heap a.by a.view Phase (LoadsFor next) f q true next) } →
+    run_view : (p ≡ positions.Entering) ⊎ (p ≡ positions.Between) →
+        b ≡ record a { view = logged (poll_at a.heap a.by a.view Phase (LoadsFor next) f p true next) } →
         b ≡ record a { view = logged (poll_run a.heap a.by a.view Phase (LoadsFor next) f next) }
-    run_view positions.Entering r e = e
-    run_view positions.Between r e = e
-    run_view _ r e = absurd r
+    run_view (inl e) view =
+        view ∙ ((λ t. record a { view = logged (poll_at a.heap a.by a.view Phase (LoadsFor next) f (e t) true next) })
+        ∙ λ t. record a { view = logged (enters_for a.heap a.by a.view Phase (LoadsFor next) f (g.target t) next) })
+    run_view (inr e) view = view ∙ λ t. record a { view = logged (poll_at a.heap a.by a.view Phase (LoadsFor next) f (e t) true next) }
 
     module _ (run : is_run (phase_of f.word).code ≡ true) (epoch : ℕ) (epoch_is : epoch ≡ pauses (phase_of f.word)) where
       ran : b ≡ record a { view = logged (poll_run a.heap a.by a.view Phase (LoadsFor next) f next) }
-      ran = run_view p ready (polled_view true run)
+      ran = run_view ready (polled_view true run)
 
       -- no call was let through
       pub waited : next ≡ None → Agrees (record m { epoch = epoch; task = Polls }) b here'
@@ -213,7 +210,7 @@ module _ (m : Mutating) (a : Stand) (here : ℕ → Bool) (g : Agrees m a here) 
           (record { locals = g.knows.locals; epoch = sym epoch_is; log = g.knows.log; begun = g.knows.begun }) g.births g.target g.width small (
             record {
               position = refl;
-              answers = record { calls = at.0.answers.calls; count = at.0.answers.count; within = at.0.answers.within };
+              answers = at.0.answers;
               alloc = at.0.alloc;
             },
             at.1,
@@ -237,12 +234,12 @@ module _ (m : Mutating) (a : Stand) (here : ℕ → Bool) (g : Agrees m a here) 
             ∙ ((λ t. record a { view = logged (poll_run a.heap a.by a.view Phase (LoadsFor next) f (is_next t)) })
             ∙ (λ t. record a { view = logged (begin_with a.heap a.by a.view Phase (LoadsFor next) f call ((alone_is ∙ e) t)) }))
 
-        under : UnderWay begun_one call
+        under : UnderWay m.log m.calls (m.begun + 1) call
         under = record {
           number = m.begun;
-          begun = refl;
+          is_last = refl;
           is_call = is_call;
-          answers = record { calls = at.0.answers.calls; count = at.0.answers.count; within = at.0.answers.within };
+          answers = at.0.answers;
         }
 
         births_then : a.view.births + cond (makes_object call) 1 0 ≡ births_among (take (m.begun + 1) m.calls)
@@ -251,12 +248,12 @@ module _ (m : Mutating) (a : Stand) (here : ℕ → Bool) (g : Agrees m a here) 
         epoch_then : pauses (phase_of f.word) ≡ epoch
         epoch_then = sym epoch_is
 
-        pub answered_at_once : (reply : Reply) → alone now call ≡ Some reply → Agrees (answered begun_one call reply 0) b here'
+        pub answered_at_once : (reply : Reply) → alone now call ≡ Some reply → Agrees (answered begun_one call reply) b here'
         unfolding under
         answered_at_once reply e =
             let u : View = logged (saying a.by (pauses (phase_of f.word)) call reply 0 (with_call a.heap a.by a.view Phase
             (LoadsFor next) f call positions.Between)) in
-            let answers = answers_more begun_one call under reply 0 (m.begun + 1) epoch m.locals (resting_task begun_one) m.alloc refl in
+            let answers = answers_more begun_one call under reply 0 in
             agrees_then m a here g idle b here' u (begun_view (Some reply) e) refl refl refl made.lies (m.begun + 1) epoch m.locals
             (resting_task begun_one) (said begun_one call reply 0)
             (record {
@@ -265,7 +262,7 @@ module _ (m : Mutating) (a : Stand) (here : ℕ → Bool) (g : Agrees m a here) 
               log = λ t. (g.knows.log t) ++ entry_of (by_is m a here g t) (epoch_then t) call reply 0 ∷ [];
               begun = ap (λ n. n + 1) g.knows.begun;
             })
-            births_then g.target g.width small (rest_at (answered begun_one call reply 0) u refl answers at.0.alloc)
+            births_then g.target g.width small (rest_at (answered begun_one call reply) u refl answers at.0.alloc)
 
         pub answered_between : (reply : Reply) → alone now call ≡ Some reply → b.view.position ≡ positions.Between
         answered_between reply e = ap (λ (x : Stand). x.view.position) (begun_view (Some reply) e)
@@ -281,14 +278,6 @@ module _ (m : Mutating) (a : Stand) (here : ℕ → Bool) (g : Agrees m a here) 
           begun = ap (λ n. n + 1) g.knows.begun;
         }
 
-        under_by : (task : Task) (alloc : Keeps) → UnderWay (record begun_one { task = task; alloc = alloc }) call
-        under_by task alloc = record {
-          number = m.begun;
-          begun = refl;
-          is_call = is_call;
-          answers = record { calls = at.0.answers.calls; count = at.0.answers.count; within = at.0.answers.within };
-        }
-
         pub goes_on : alone now call ≡ None → makes_object call ≡ false → Agrees (record begun_one { task = Calls call None }) b here'
         goes_on e birth =
             agrees_then m a here g idle b here' calling (begun_view None e) refl refl refl made.lies (m.begun + 1) epoch m.locals (Calls call None)
@@ -299,18 +288,13 @@ module _ (m : Mutating) (a : Stand) (here : ℕ → Bool) (g : Agrees m a here) 
               header = refl;
               no_birth = birth;
               not_alone = e;
-              under_way = record {
-                number = m.begun;
-                begun = refl;
-                is_call = is_call;
-                answers = record { calls = at.0.answers.calls; count = at.0.answers.count; within = at.0.answers.within };
-              };
+              under_way = under;
               alloc = at.0.alloc;
               object = object_in m.heap m.locals call e;
               read = nothing_read m.heap (field_of call);
             })
 
-        pub gets : alone now call ≡ None → (m' : Mutating) → Requests now call m' → Agrees m' b here'
+        pub gets : alone now call ≡ None → (m' : Mutating) → RequestsCell now call m' → Agrees m' b here'
         gets e m' r =
             let view = begun_view None e in
             let v : b.view ≡ calling = ap (λ (x : Stand). x.view) view in
@@ -342,7 +326,7 @@ module _ (m : Mutating) (a : Stand) (here : ℕ → Bool) (g : Agrees m a here) 
               at = record {
                 position = ap (λ (x : View). x.position) v;
                 birth = r.birth;
-                under_way = under_by task r.alloc;
+                under_way = under;
                 alloc = r.gets;
               };
             })
@@ -354,5 +338,5 @@ module _ (m : Mutating) (a : Stand) (here : ℕ → Bool) (g : Agrees m a here) 
 
   pub may_poll_at : (m.task ≡ Enters) ⊎ (m.task ≡ Polls) → (passed : Bool) (next : Option Call) → next ≡ next_call m passed →
       MayPoll a.heap a.by a.view here Phase (LoadsFor next)
-  may_poll_at (inl e) = may_poll m a here g positions.Entering tt (at_task Enters e)
-  may_poll_at (inr e) = may_poll m a here g positions.Between tt (at_task Polls e)
+  may_poll_at (inl e) = may_poll m a here g positions.Entering (inl refl) (at_task Enters e)
+  may_poll_at (inr e) = may_poll m a here g positions.Between (inr refl) (at_task Polls e)

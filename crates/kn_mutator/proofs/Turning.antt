@@ -3,7 +3,7 @@ use Rattle.std.proofs.Common.{◌≡◌, ℕ, inl, Bool, true, false, cond, Opti
 use Rattle.kn_base.specs.declared.places.Place.TheVariants.{Local, Phase, State as StateOf}
 use Rattle.kn_rule.specs.declared.positions.Position.TheVariants as positions
 use Rattle.kn_rule.specs.declared.steps.Action.TheVariants.{LoadsFor, Stores}
-use Rattle.kn_rule.specs.declared.steps.Kind.TheVariants.{K1, K2, K3}
+use Rattle.kn_rule.specs.declared.steps.Kind.TheVariants.{K2, K3}
 use Rattle.kn_rule.specs.Allowed.{MayStoreState}
 use Rattle.kn_rule.specs.Outcomes.{write_at}
 use Rattle.kn_base.specs.declared.kinds.Code.{Code}
@@ -15,16 +15,16 @@ use Rattle.kn_rule.specs.Views.{View}
 use Rattle.kn_base.specs.Pages.{FrameView}
 use Rattle.kn_steps.specs.Made.{Made, Stand}
 use Rattle.kn_steps.specs.declared.turns.Turn.{Turn}
-use Rattle.kn_steps.specs.declared.turns.Turn.TheVariants.{Moved}
+use Rattle.kn_steps.specs.declared.turns.Turn.TheVariants.{Moved, Done}
 use Rattle.kn_alloc.specs.Agree.{IsIdle}
 use Rattle.kn_mutator.specs.declared.task.Task.{Task}
 use Rattle.kn_mutator.specs.declared.task.Task.TheVariants.{Out, GoesIn, Enters, Writes}
-use Rattle.kn_mutator.specs.Agree.{Agrees, Answers, AtTask, HasLeft, Rests}
+use Rattle.kn_mutator.specs.Agree.{Agrees, AtTask, HasEnded, HasLeft, Rests}
 use Rattle.kn_mutator.specs.After.{resting_task}
 use Rattle.kn_mutator.specs.Mutating.{Mutating}
-use Rattle.kn_mutator.specs.Tasks.{has_left, has_single, idle_at, is_wait, task_at}
-use Rattle.kn_mutator.specs.Turns.{Goes, IsAllocBehind}
-use Rattle.kn_mutator.proofs.Making.{alloc_rests, follows, goes_by, makes}
+use Rattle.kn_mutator.specs.Tasks.{has_left, has_single, idle_at, is_wait, poll_for, task_at}
+use Rattle.kn_mutator.specs.Turns.{Goes, asks_none}
+use Rattle.kn_mutator.proofs.Making.{goes_by, makes, moves_on, not_done, rest_goes_on}
 use Rattle.kn_mutator.proofs.Core.{addresses_made, agrees_then, by_is, is_thread, rest_at}
 
 module _ (m : Mutating) (a : Stand) (here : ℕ → Bool) (g : Agrees m a here) where
@@ -42,8 +42,10 @@ module _ (m : Mutating) (a : Stand) (here : ℕ → Bool) (g : Agrees m a here) 
       value = 1;
       place = ap StateOf (sym (by_is m a here g));
       word = refl;
-      thread = is_thread m a here g;
-      may = subst (λ p. Rattle.kn_rule.specs.Allowed.MayGo a.heap a.by a.view here p 1) (sym at_in.0.position) (inl refl);
+      may = inl (
+        is_thread m a here g,
+        subst (λ p. Rattle.kn_rule.specs.Allowed.MayGo a.heap a.by a.view here p 1) (sym at_in.0.position) (inl refl),
+      );
     }
 
     pub went_in : (f : Found) (b : Stand) (here' : ℕ → Bool) → Made a here (does K2 (StateOf m.by) (Stores 1)) f b here' →
@@ -55,7 +57,7 @@ module _ (m : Mutating) (a : Stand) (here : ℕ → Bool) (g : Agrees m a here) 
         agrees_then m a here g (subst IsIdle (sym r.alloc) tt) b here' u made.view refl refl refl made.lies m.begun m.epoch m.locals Enters m.log
         (record { locals = g.knows.locals; epoch = g.knows.epoch; log = g.knows.log; begun = g.knows.begun }) g.births g.target g.width
         (addresses_made a here (does K2 (StateOf m.by) (Stores 1)) f b here' made g.alloc.good (is_thread m a here g)) (
-          record { position = refl; answers = record { calls = r.answers.calls; count = r.answers.count; within = r.answers.within }; alloc = r.alloc },
+          record { position = refl; answers = r.answers; alloc = r.alloc },
           at_in.1,
         )
 
@@ -64,7 +66,7 @@ module _ (m : Mutating) (a : Stand) (here : ℕ → Bool) (g : Agrees m a here) 
     at_out : Rests m a.view positions.Out × HasLeft m
     at_out = at_task Out is
 
-    pub looked : (f : Found) (b : Stand) (here' : ℕ → Bool) → Made a here (does K1 Phase (LoadsFor None)) f b here' → (task : Task) →
+    pub looked : (f : Found) (b : Stand) (here' : ℕ → Bool) → Made a here (poll_for None) f b here' → (task : Task) →
         (Rests m a.view positions.Out × HasLeft m → AtTask task (record m { task = task }) a.view) → Agrees (record m { task = task }) b here'
     unfolding at_out
     looked f b here' made task at =
@@ -76,7 +78,7 @@ module _ (m : Mutating) (a : Stand) (here : ℕ → Bool) (g : Agrees m a here) 
         }) in
         agrees_then m a here g (subst IsIdle (sym at_out.0.alloc) tt) b here' a.view e refl refl refl made.lies m.begun m.epoch m.locals task m.log
         (record { locals = g.knows.locals; epoch = g.knows.epoch; log = g.knows.log; begun = g.knows.begun }) g.births g.target g.width
-        (addresses_made a here (does K1 Phase (LoadsFor None)) f b here' made g.alloc.good (is_thread m a here g)) (at at_out)
+        (addresses_made a here (poll_for None) f b here' made g.alloc.good (is_thread m a here g)) (at at_out)
 
   -- the store of a value that is due
   module _ (r w : ℕ) (is : m.task ≡ Writes r w) where
@@ -89,13 +91,11 @@ module _ (m : Mutating) (a : Stand) (here : ℕ → Bool) (g : Agrees m a here) 
     wrote f b here' made =
         let u : View = record a.view { position = positions.Between } in
         let e : b ≡ record a { view = u } =
-        made.view ∙ (λ t. record a { view = logged (write_at a.heap a.by a.view (Local m.by r) (Stores w) f (at_write.position t)) }) in
-        let answers : Answers (record m { task = resting_task m }) m.begun =
-        record { calls = at_write.answers.calls; count = at_write.answers.count; within = at_write.answers.within } in (
+        made.view ∙ (λ t. record a { view = logged (write_at a.heap a.by a.view (Local m.by r) (Stores w) f (at_write.position t)) }) in (
           agrees_then m a here g (subst IsIdle (sym at_write.alloc) tt) b here' u e refl refl refl made.lies m.begun m.epoch m.locals (resting_task m)
               m.log (record { locals = g.knows.locals; epoch = g.knows.epoch; log = g.knows.log; begun = g.knows.begun }) g.births g.target g.width
               (addresses_made a here (does K3 (Local m.by r) (Stores w)) f b here' made g.alloc.good (is_thread m a here g))
-              (rest_at (record m { task = resting_task m }) u refl answers at_write.alloc),
+              (rest_at (record m { task = resting_task m }) u refl at_write.answers at_write.alloc),
           ap (λ (x : Stand). x.view.position) e,
         )
 
@@ -109,13 +109,19 @@ run_is_no_wait codes.StopB e = cc
 run_is_no_wait codes.Prep e = cc
 run_is_no_wait codes.Sweep e = refl
 
+-- a turn that is idle is not done
+pub idle_goes_on : (w : ℕ) (idle : Bool) → idle_at w idle ≡ Done → ⊥
+idle_goes_on w true e = cc
+idle_goes_on w false e = cc
+
 -- those turns
 module _ {T : Type 0} (stand : T → Stand) (here : T → ℕ → Bool) (did : T → Step → Found → T → Type 0)
     (moved : T → ℕ → Option FrameView → Option FrameView → T → Type 0) (m : Mutating) (s s' : T) (g : Agrees m (stand s) (here s)) where
   pub goes_in : m.task ≡ GoesIn → (by : ℕ) → by ≡ m.by → (f : Found) →
       Made (stand s) (here s) (does K2 (StateOf by) (Stores 1)) f (stand s') (here s') →
-      did s (does K2 (StateOf by) (Stores 1)) f s' → Goes stand here did moved m s s' (record m { task = Enters }) Moved
-  goes_in is by e f made kept =
+      did s (does K2 (StateOf by) (Stores 1)) f s' → (q : Mutating) → q ≡ record m { task = Enters } →
+      Goes stand here did moved asks_none m s s' q Moved
+  goes_in is by e f made kept q is_q =
       let d : Step = does K2 (StateOf m.by) (Stores 1) in
       let made' : Made (stand s) (here s) d f (stand s') (here s') =
       subst (λ b. Made (stand s) (here s) (does K2 (StateOf b) (Stores 1)) f (stand s') (here s')) e made in
@@ -123,63 +129,64 @@ module _ {T : Type 0} (stand : T → Stand) (here : T → ℕ → Bool) (did : T
       let m' : Mutating = record m { task = Enters } in
       let agrees : Agrees m' (stand s') (here s') = went_in m (stand s) (here s) g is f (stand s') (here s') made' in
       let entering : (stand s').view.position ≡ positions.Entering = agrees.at.0.position in
-      goes_by stand here did moved m s s' m' Moved GoesIn is
+      subst (λ q. Goes stand here did moved asks_none m s s' q Moved) (sym is_q)
+      (goes_by stand here did moved m s s' m' Moved asks_none GoesIn is
       (makes stand here did moved m s s' m' Moved GoesIn is d f refl made' kept'
       (sym (ap (task_at (has_left m') (has_single m'.alloc.hands) (stand s').view.header) entering)) refl refl)
-      (follows m m' (stand s') (here s') refl refl refl agrees) agrees
+      refl refl refl agrees (moves_on Enters (λ x. x)))
 
   -- a look by a caller that is out
   module _ (is : m.task ≡ Out) (w : ℕ) (page : FrameView)
-      (made : Made (stand s) (here s) (does K1 Phase (LoadsFor None)) (found w page) (stand s') (here s'))
-      (kept : did s (does K1 Phase (LoadsFor None)) (found w page) s') where
+      (made : Made (stand s) (here s) (poll_for None) (found w page) (stand s') (here s'))
+      (kept : did s (poll_for None) (found w page) s') where
     looked_as : (task : Task) → AtTask task (record m { task = task }) (stand s).view → task ≡ cond (is_run (phase_of w).code) GoesIn Out →
-        IsAllocBehind m.heap task m.alloc m.epoch m.alloc → (reply : Turn) → reply ≡ idle_at w (is_wait (phase_of w).code) →
-        Goes stand here did moved m s s' (record m { task = task }) reply
-    looked_as task at e alloc reply answer =
+        (HasEnded task → ⊥) → (wait : Bool) → wait ≡ is_wait (phase_of w).code → (reply : Turn) → reply ≡ idle_at w wait →
+        Goes stand here did moved asks_none m s s' (record m { task = task }) reply
+    looked_as task at e on wait ew reply answer =
         let agrees = looked m (stand s) (here s) g is (found w page) (stand s') (here s') made task (λ _. at) in
-        goes_by stand here did moved m s s' (record m { task = task }) reply Out is
-        (makes stand here did moved m s s' (record m { task = task }) reply Out is (does K1 Phase (LoadsFor None)) (found w page) refl made kept e
-        alloc answer)
-        (follows m (record m { task = task }) (stand s') (here s') refl refl refl agrees) agrees
+        goes_by stand here did moved m s s' (record m { task = task }) reply asks_none Out is
+        (makes stand here did moved m s s' (record m { task = task }) reply Out is (poll_for None) (found w page) refl made kept e refl
+        (answer ∙ ap (idle_at w) ew))
+        refl refl refl agrees (not_done reply task (λ d. idle_goes_on w wait (sym answer ∙ d)) on)
 
     at_here : Rests m (stand s).view positions.Out × HasLeft m
     at_here = subst (λ t. AtTask t m (stand s).view) is g.at
 
     pub looks_in : (run : Bool) → run ≡ is_run (phase_of w).code → run ≡ true → (m' : Mutating) → m' ≡ record m { task = GoesIn } →
-        Goes stand here did moved m s s' m' Moved
+        Goes stand here did moved asks_none m s s' m' Moved
     looks_in run e is_so m' em =
         let ran = sym e ∙ is_so in
-        subst (λ (q : Mutating). Goes stand here did moved m s s' q Moved) (sym em)
+        subst (λ (q : Mutating). Goes stand here did moved asks_none m s s' q Moved) (sym em)
         (looked_as GoesIn (
           record {
             position = at_here.0.position;
-            answers = record { calls = at_here.0.answers.calls; count = at_here.0.answers.count; within = at_here.0.answers.within };
+            answers = at_here.0.answers;
             alloc = at_here.0.alloc;
           },
           at_here.1,
         )
-        (sym (ap (λ q. cond q GoesIn Out) ran)) refl Moved (sym (ap (idle_at w) (run_is_no_wait (phase_of w).code ran))))
+        (sym (ap (λ q. cond q GoesIn Out) ran)) (λ x. x) false (sym (run_is_no_wait (phase_of w).code ran)) Moved refl)
 
     pub stays_out : (run : Bool) → run ≡ is_run (phase_of w).code → run ≡ false → (wait : Bool) → wait ≡ is_wait (phase_of w).code →
-        (reply : Turn) → reply ≡ idle_at w wait → Goes stand here did moved m s s' m reply
+        (reply : Turn) → reply ≡ idle_at w wait → Goes stand here did moved asks_none m s s' m reply
     stays_out run e is_not wait ew reply er =
         let ran = sym e ∙ is_not in
         let same : record m { task = Out } ≡ m = λ t. record m { task = sym is t } in
-        subst (λ (q : Mutating). Goes stand here did moved m s s' q reply) same
+        subst (λ (q : Mutating). Goes stand here did moved asks_none m s s' q reply) same
         (looked_as Out (
           record {
             position = at_here.0.position;
-            answers = record { calls = at_here.0.answers.calls; count = at_here.0.answers.count; within = at_here.0.answers.within };
+            answers = at_here.0.answers;
             alloc = at_here.0.alloc;
           },
           at_here.1,
         )
-        (sym (ap (λ q. cond q GoesIn Out) ran)) refl reply (er ∙ ap (idle_at w) ew))
+        (sym (ap (λ q. cond q GoesIn Out) ran)) (λ x. x) wait ew reply er)
 
   pub writes : (r w : ℕ) → m.task ≡ Writes r w → (by : ℕ) → by ≡ m.by → (v : ℕ) → v ≡ w → (f : Found) →
       Made (stand s) (here s) (does K3 (Local by r) (Stores v)) f (stand s') (here s') → did s (does K3 (Local by r) (Stores v)) f s' →
-      Goes stand here did moved m s s' (record m { task = resting_task m }) Moved
-  writes r w is by e v ev f made kept =
+      (q : Mutating) → q ≡ record m { task = resting_task m } → Goes stand here did moved asks_none m s s' q Moved
+  writes r w is by e v ev f made kept q is_q =
       let d : Step = does K3 (Local m.by r) (Stores w) in
       let step : does K3 (Local by r) (Stores v) ≡ d = λ t. does K3 (Local (e t) r) (Stores (ev t)) in
       let made' : Made (stand s) (here s) d f (stand s') (here s') =
@@ -187,8 +194,8 @@ module _ {T : Type 0} (stand : T → Stand) (here : T → ℕ → Bool) (did : T
       let kept' : did s d f s' = subst (λ (q : Step). did s q f s') step kept in
       let m' : Mutating = record m { task = resting_task m } in
       let h = wrote m (stand s) (here s) g r w is f (stand s') (here s') made' in
-      goes_by stand here did moved m s s' m' Moved (Writes r w) is
+      subst (λ q. Goes stand here did moved asks_none m s s' q Moved) (sym is_q)
+      (goes_by stand here did moved m s s' m' Moved asks_none (Writes r w) is
       (makes stand here did moved m s s' m' Moved (Writes r w) is d f refl made' kept'
-      (sym (ap (task_at (has_left m') (has_single m'.alloc.hands) (stand s').view.header) h.1))
-      (alloc_rests m.heap (has_left m) (has_single m.alloc.hands) m.alloc m.epoch) refl)
-      (follows m m' (stand s') (here s') refl refl refl h.0) h.0
+      (sym (ap (task_at (has_left m') (has_single m'.alloc.hands) (stand s').view.header) h.1)) refl refl)
+      refl refl refl h.0 (moves_on (resting_task m) (rest_goes_on (has_left m) (has_single m.alloc.hands))))

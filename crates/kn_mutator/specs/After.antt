@@ -23,8 +23,8 @@ abbrev pub resting_task : Mutating → Task
 resting_task m = rest_task (has_left m) (has_single m.alloc.hands)
 
 -- its call answered, and nothing due of it
-abbrev pub answered : Mutating → Call → Reply → ℕ → Mutating
-answered m call reply address = record m { log = said m call reply address; task = resting_task m }
+abbrev pub answered : Mutating → Call → Reply → Mutating
+answered m call reply = record m { log = said m call reply 0; task = resting_task m }
 
 -- a local set and the call answered
 abbrev pub assigned : Mutating → Call → ℕ → ℕ → Mutating
@@ -34,6 +34,10 @@ assigned m call r w = record m { locals = slice_set m.locals r w; log = said m c
 abbrev pub referred : Mutating → Call → ℕ → ℕ → Mutating
 referred m call r w = record m { locals = slice_set m.locals r w; log = said m call (ref_word w) 0; task = Writes r w }
 
+-- its object born at the address, which is due for local r
+abbrev pub born : Mutating → Call → ℕ → ℕ → Mutating
+born m call r address = record m { locals = slice_set m.locals r address; log = said m call replies.Ok address; task = Writes r address }
+
 -- the field is of the kind wanted
 abbrev pub is_kind : FieldKind → FieldKind → Bool
 is_kind Ref Ref = true
@@ -42,9 +46,9 @@ is_kind _ _ = false
 
 -- behind the header h: the call is answered where the object has no such field or one of another kind, and else it goes on
 abbrev pub judged_as : Mutating → Call → ℕ → FieldKind → Option FieldKind → Mutating
-judged_as m call h wanted None = answered m call replies.NoField 0
+judged_as m call h wanted None = answered m call replies.NoField
 judged_as m call h wanted (Some k) =
-    cond (is_kind wanted k) (record m { task = Calls call (Some h) }) (answered m call replies.WrongKind 0)
+    cond (is_kind wanted k) (record m { task = Calls call (Some h) }) (answered m call replies.WrongKind)
 
 abbrev pub judged_for : Mutating → Call → ℕ → Option (ℕ × ℕ × FieldKind) → Mutating
 judged_for m call h None = m

@@ -5,13 +5,13 @@ use Rattle.std.specs.List.{AllByRecursion}
 use Rattle.kn_base.specs.declared.limits.TheConstants.{LOCALS}
 use Rattle.kn_layout.specs.declared.layouts.FieldKind.{FieldKind}
 use Rattle.kn_graph.specs.declared.calls.Call.{Call}
+use Rattle.kn_graph.specs.declared.entries.Entry.{Entry}
 use Rattle.kn_graph.specs.Arguments.{IsInRange}
 use Rattle.kn_graph.specs.Counts.{births_among, makes_object}
 use Rattle.kn_graph.specs.Ground.{Ground, IsGoodGround}
 use Rattle.kn_graph.specs.Logs.{calls_of}
 use Rattle.kn_rule.specs.declared.positions.Position.{Position}
 use Rattle.kn_rule.specs.declared.positions.Position.TheVariants as positions
-use Rattle.kn_rule.specs.Allowed.{IsBuilt}
 use Rattle.kn_rule.specs.Requests.{field_of, told_kind}
 use Rattle.kn_rule.specs.Views.{View}
 use Rattle.kn_steps.specs.Made.{Stand}
@@ -20,40 +20,40 @@ use Rattle.kn_alloc.specs.Agree.{Agrees as AllocAgrees, IsGetting, IsIdle}
 use Rattle.kn_mutator.specs.declared.task.Task.{Task}
 use Rattle.kn_mutator.specs.declared.task.Task.TheVariants.{Out, GoesIn, Enters, Polls, Calls, Births, Writes, SendsSingle, Leaves, Ends, Ended}
 use Rattle.kn_mutator.specs.Begun.{alone}
-use Rattle.kn_mutator.specs.Mutating.{Knows, Mutating}
+use Rattle.kn_mutator.specs.Mutating.{IsMade, Knows, Mutating}
 use Rattle.kn_mutator.specs.Tasks.{has_single}
 
--- the calls of thread c: each is built and in range, and the sizes count them and their births
+-- the calls of thread c: each is one that a mutator makes, and in range, and the sizes count them and their births
 pub record Planned (z : Ground) (c : ℕ) (calls : List Call) : Type 0 where
   pub good : IsGoodGround z
   pub thread : c < z.sizes.threads
   pub calls_are : slice_index z.sizes.calls c ≡ length calls
   pub births_are : slice_index z.sizes.births c ≡ births_among calls
-  pub built : AllByRecursion IsBuilt calls
+  pub made : AllByRecursion IsMade calls
   pub in_range : AllByRecursion (IsInRange z) calls
 
--- the log answers the first n calls, each once, in order
-pub record Answers (m : Mutating) (n : ℕ) : Type 0 where
-  pub calls : calls_of m.log ≡ take n m.calls
-  pub count : length m.log ≡ n
-  pub within : n ≤ length m.calls
+-- the log answers the first n of all calls, each once, in order
+pub record HasAnswered (log : List Entry) (all : List Call) (n : ℕ) : Type 0 where
+  pub calls : calls_of log ≡ take n all
+  pub count : length log ≡ n
+  pub within : n ≤ length all
 
--- this call is begun and not answered, and all before it are answered
-pub record UnderWay (m : Mutating) (call : Call) : Type 0 where
+-- of so many calls that were begun this is the last; it is not answered, and all before it are
+pub record UnderWay (log : List Entry) (all : List Call) (begun : ℕ) (call : Call) : Type 0 where
   pub number : ℕ
-  pub begun : m.begun ≡ number + 1
-  pub is_call : slice_get m.calls number ≡ Some call
-  pub answers : Answers m number
+  pub is_last : begun ≡ number + 1
+  pub is_call : slice_get all number ≡ Some call
+  pub answers : HasAnswered log all number
 
 -- no call is under way, and the allocator rests
 pub record Rests (m : Mutating) (v : View) (at : Position) : Type 0 where
   pub position : v.position ≡ at
-  pub answers : Answers m m.begun
+  pub answers : HasAnswered m.log m.calls m.begun
   pub alloc : m.alloc.stage ≡ Resting
 
 -- no call is under way, and pages may go home
 pub record MayGoHome (m : Mutating) : Type 0 where
-  pub answers : Answers m m.begun
+  pub answers : HasAnswered m.log m.calls m.begun
   pub alloc : IsIdle m.alloc.stage
 
 abbrev pub HasLeft : Mutating → Type 0
@@ -77,7 +77,7 @@ pub record CallsAt (m : Mutating) (v : View) (call : Call) (h : Option ℕ) : Ty
   pub header : v.header ≡ h
   pub no_birth : makes_object call ≡ false
   pub not_alone : alone m call ≡ None
-  pub under_way : UnderWay m call
+  pub under_way : UnderWay m.log m.calls m.begun call
   pub alloc : m.alloc.stage ≡ Resting
   pub object : IsObjectIn (λ r. slice_index m.locals r) (field_of call)
   pub read : IsHeaderRead m.heap (field_of call) h
@@ -86,7 +86,7 @@ pub record CallsAt (m : Mutating) (v : View) (call : Call) (h : Option ℕ) : Ty
 pub record BirthAt (m : Mutating) (v : View) (call : Call) : Type 0 where
   pub position : v.position ≡ positions.Calling call
   pub birth : makes_object call ≡ true
-  pub under_way : UnderWay m call
+  pub under_way : UnderWay m.log m.calls m.begun call
   pub alloc : IsGetting m.alloc.stage
 
 -- what each task needs
@@ -101,7 +101,7 @@ AtTask (Writes r w) m v = Rests m v (positions.Writing r w 0)
 AtTask SendsSingle m v = (v.position ≡ positions.Between) × MayGoHome m × HasLeft m × (m.alloc.stage ≡ Resting → has_single m.alloc.hands ≡ true)
 AtTask Leaves m v = ((v.position ≡ positions.Leaving) ⊎ (v.position ≡ positions.Entering)) × MayGoHome m × HasLeft m
 AtTask Ends m v = ((v.position ≡ positions.Between) ⊎ (v.position ≡ positions.Out)) × MayGoHome m × (m.begun ≡ length m.calls)
-AtTask Ended m v = (v.position ≡ positions.Ended) × Answers m m.begun × (m.begun ≡ length m.calls)
+AtTask Ended m v = (v.position ≡ positions.Ended) × HasAnswered m.log m.calls m.begun × (m.begun ≡ length m.calls)
 
 -- whose mutator it is, over which heap; what it keeps of the view is what the view has, and its allocator agrees with it
 pub record Agrees (m : Mutating) (a : Stand) (here : ℕ → Bool) : Type 0 where

@@ -1,10 +1,9 @@
 -- A call that begins, and a birth that is made.
-use Rattle.std.specs.Prelude.{◌≡◌, ℕ, ◌+◌, ◌≤◌, Bool, true, false, Option, Some, None, slice_set}
+use Rattle.std.specs.Prelude.{◌≡◌, ℕ, ◌+◌, ◌≤◌, Bool, true, false, Option, Some, None}
 use Rattle.kn_base.specs.declared.places.Place.TheVariants.{Phase}
 use Rattle.kn_base.specs.declared.classes.TheConstants.{LEAST_CELL}
 use Rattle.kn_graph.specs.declared.calls.Call.{Call}
 use Rattle.kn_graph.specs.declared.calls.Reply.{Reply}
-use Rattle.kn_graph.specs.declared.calls.Reply.TheVariants as replies
 use Rattle.kn_graph.specs.Counts.{makes_object}
 use Rattle.kn_graph.specs.Ground.{Ground}
 use Rattle.kn_rule.specs.Decoding.{phase_of}
@@ -18,9 +17,9 @@ use Rattle.kn_steps.specs.declared.turns.Turn.TheVariants.{Idle, Moved}
 use Rattle.kn_alloc.specs.declared.stage.Request.{Request}
 use Rattle.kn_alloc.specs.Agree.{Agrees as AllocAgrees, HasBegun, IsGetting}
 use Rattle.kn_alloc.specs.Keeps.{IsHeaderOf, Keeps, Starts, header_asked, words_of_request}
-use Rattle.kn_mutator.specs.declared.task.Task.TheVariants.{Births, Calls, Leaves, Polls, Writes}
+use Rattle.kn_mutator.specs.declared.task.Task.TheVariants.{Births, Calls, Leaves, Polls}
 use Rattle.kn_mutator.specs.Mutating.{Mutating}
-use Rattle.kn_mutator.specs.After.{answered, said}
+use Rattle.kn_mutator.specs.After.{answered, born}
 
 -- what a view with the locals that are kept alone answers
 abbrev pub alone : Mutating → Call → Option Reply
@@ -39,7 +38,7 @@ IsRequestFor z call None = makes_object call ≡ false
 IsRequestFor z call (Some request) = IsTheRequest z call request
 
 -- the allocator was asked for the cell of the call, whose words fit a frame
-pub record Requests (m : Mutating) (call : Call) (m' : Mutating) : Type 0 where
+pub record RequestsCell (m : Mutating) (call : Call) (m' : Mutating) : Type 0 where
   pub birth : makes_object call ≡ true
   pub words : ℕ
   pub asked : words_asked m.heap call ≡ Some words
@@ -53,8 +52,8 @@ pub record Requests (m : Mutating) (call : Call) (m' : Mutating) : Type 0 where
 
 -- a call begins: it is answered at once, its cell is asked for, or it goes on with steps of its own
 abbrev pub BeginsAs : Mutating → Call → Option Reply → Bool → Mutating → Type 0
-BeginsAs m call (Some reply) birth m' = m' ≡ answered (record m { begun = m.begun + 1 }) call reply 0
-BeginsAs m call None true m' = Requests m call m'
+BeginsAs m call (Some reply) birth m' = m' ≡ answered (record m { begun = m.begun + 1 }) call reply
+BeginsAs m call None true m' = RequestsCell m call m'
 BeginsAs m call None false m' = m' ≡ record m { begun = m.begun + 1; task = Calls call None }
 
 abbrev pub Begins : Mutating → Call → Mutating → Type 0
@@ -62,8 +61,7 @@ Begins m call m' = BeginsAs m call (alone m call) (makes_object call) m'
 
 -- the object of the call was born at the address, which is due for its local
 abbrev pub Bears : Mutating → Call → ℕ → Mutating → Type 0
-Bears m call address m' = (b : ℕ × ℕ × ℕ) → birth_of m.heap call ≡ Some b →
-    m' ≡ record m { locals = slice_set m.locals b.0 address; log = said m call replies.Ok address; task = Writes b.0 address }
+Bears m call address m' = (b : ℕ × ℕ × ℕ) → birth_of m.heap call ≡ Some b → m' ≡ born m call b.0 address
 
 -- a phase word was found by a poll for the next call, if one was let through: in a run phase that call begins, and no other
 -- phase lets it stay in

@@ -2,9 +2,11 @@
 use Rattle.std.specs.Prelude.{◌≡◌, ℕ, List, [], ◌∷◌, replicate}
 use Rattle.kn_base.specs.declared.limits.TheConstants.{LOCALS}
 use Rattle.kn_graph.specs.declared.calls.Call.{Call}
+use Rattle.kn_graph.specs.declared.calls.Call.TheVariants.{Collect}
 use Rattle.kn_graph.specs.declared.entries.Entry.{Entry}
 use Rattle.kn_graph.specs.Ground.{Ground}
 use Rattle.kn_rule.specs.Steps.{epoch_in}
+use Rattle.kn_rule.specs.Allowed.{IsBuilt}
 use Rattle.kn_rule.specs.Views.{View}
 use Rattle.kn_alloc.specs.Keeps.{Keeps, new_keeps}
 use Rattle.kn_mutator.specs.declared.task.Task.{Task}
@@ -22,6 +24,11 @@ pub record Mutating : Type 0 where
   pub task : Task
   pub alloc : Keeps
   pub log : List Entry
+
+-- the calls that a mutator makes: those that are built but `gc`, for whose epoch it does not wait
+abbrev pub IsMade : Call → Type 0
+IsMade Collect = ⊥
+IsMade call = IsBuilt call
 
 -- a thread without calls ends at once
 abbrev pub first_task : List Call → Task

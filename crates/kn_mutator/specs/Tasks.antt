@@ -48,15 +48,17 @@ call_step c local _ h = None
 abbrev pub local_kept : Mutating → ℕ → ℕ
 local_kept m r = slice_index m.locals r
 
--- the step of a task that asks nothing of the allocator
-abbrev pub task_step : Mutating → Bool → Task → Option Step
-task_step m passed Out = Some (does K1 Phase (LoadsFor None))
-task_step m passed GoesIn = Some (does K2 (State m.by) (Stores 1))
-task_step m passed Enters = Some (does K1 Phase (LoadsFor (next_call m passed)))
-task_step m passed Polls = Some (does K1 Phase (LoadsFor (next_call m passed)))
-task_step m passed (Calls call h) = call_step m.by (local_kept m) call h
-task_step m passed (Writes r w) = Some (does K3 (Local m.by r) (Stores w))
-task_step m passed _ = None
+-- the step of a poll for the next call, if one
+abbrev pub poll_for : Option Call → Step
+poll_for next = does K1 Phase (LoadsFor next)
+
+-- the step of a task that asks nothing of a gate and of the allocator
+abbrev pub task_step : Mutating → Task → Option Step
+task_step m Out = Some (poll_for None)
+task_step m GoesIn = Some (does K2 (State m.by) (Stores 1))
+task_step m (Calls call h) = call_step m.by (local_kept m) call h
+task_step m (Writes r w) = Some (does K3 (Local m.by r) (Stores w))
+task_step m _ = None
 
 -- a page for a single object is in hand
 abbrev pub has_single : List (Option Hand) → Bool
@@ -96,11 +98,9 @@ polled_task passed w m v = cond (is_run (phase_of w).code) (cond passed (task_by
 
 -- the task behind a step that found the word w, where the mutator is m and its view v behind it; a caller that is out goes in
 -- where it found a run phase
-abbrev pub task_behind : Task → Bool → ℕ → Mutating → View → Task
-task_behind Out passed w m v = cond (is_run (phase_of w).code) GoesIn Out
-task_behind Enters passed w m v = polled_task passed w m v
-task_behind Polls passed w m v = polled_task passed w m v
-task_behind _ passed w m v = task_by m v
+abbrev pub task_behind : Task → ℕ → Mutating → View → Task
+task_behind Out w m v = cond (is_run (phase_of w).code) GoesIn Out
+task_behind _ w m v = task_by m v
 
 -- a caller that is out waits in these phases
 abbrev pub is_wait : Code → Bool
@@ -117,15 +117,17 @@ idle_at w false = Moved
 abbrev pub polled_answer : Bool → ℕ → Turn
 polled_answer passed w = cond passed Moved (idle_at w (is_run (phase_of w).code))
 
--- what the turn of such a task answers: it is idle where a caller that is out waits, and where its poll is
-abbrev pub answer_behind : Task → Bool → ℕ → Turn
-answer_behind Out passed w = idle_at w (is_wait (phase_of w).code)
-answer_behind Enters passed w = polled_answer passed w
-answer_behind Polls passed w = polled_answer passed w
-answer_behind _ passed w = Moved
+-- what the turn of such a task answers: it is idle where a caller that is out waits
+abbrev pub answer_behind : Task → ℕ → Turn
+answer_behind Out w = idle_at w (is_wait (phase_of w).code)
+answer_behind _ w = Moved
 
--- the task behind a turn in which a page goes home: a single page is home where its frame was given back, and all others go on
--- until no page is in hand
+-- a single page is home where its frame was given back
+abbrev pub single_task : Stage → Task
+single_task Resting = Polls
+single_task _ = SendsSingle
+
+-- the task behind a turn in which a page goes home: pages that are not single go on until none is in hand
 abbrev pub task_home : Task → Stage → Task
-task_home SendsSingle Resting = Polls
+task_home SendsSingle stage = single_task stage
 task_home task stage = task

@@ -1,15 +1,12 @@
 //! Births: the allocator gets a cell, and the object is born in it.
-ghost use Rattle.std.specs.Prelude.{◌≡◌, ◌<◌, length, slice_set, true};
+ghost use Rattle.std.specs.Prelude.{◌≡◌, ◌<◌, length, true};
 ghost use Rattle.kn_graph.specs.Arguments.{IsInRange};
 ghost use Rattle.kn_graph.specs.Counts.{makes_object};
-ghost use Rattle.kn_graph.specs.declared.calls.Reply.TheVariants.{Ok};
-ghost use Rattle.kn_steps.specs.Turns.{MetUnswept};
-ghost use Rattle.kn_alloc.specs.Agree.{IsSweeping};
-ghost use Rattle.kn_mutator.specs.declared.task.Task.TheVariants.{Births, Writes};
-ghost use Rattle.kn_mutator.specs.After.{said};
+ghost use Rattle.kn_mutator.specs.declared.task.Task.TheVariants.{Births};
+ghost use Rattle.kn_mutator.specs.After.{born};
 ghost use Rattle.kn_mutator.specs.Agree.{Agrees};
 ghost use Rattle.kn_mutator.specs.Begun.{Bears};
-ghost use Rattle.kn_mutator.specs.Turns.{Turned};
+ghost use Rattle.kn_mutator.specs.Turns.{GoesOrStops, asks_none};
 
 use crate::mutator::Mutator;
 use crate::task::Task;
@@ -23,13 +20,11 @@ impl Mutator {
     pub(crate) fn gets_cell<T: Steps<Page>>(&mut self, steps: &mut T, call: Call) -> Turn
         requires agrees { Agrees self.old (T.stand steps.old) (T.here steps.old) }
         requires task { self.old.task ≡ Births call }
-        ensures turned { Turned T.stand T.here T.did T.moved (Unit {0}) self.old steps.old steps.new self.new result }
-        ensures agrees { (¬ IsSweeping self.new.alloc.stage) → Agrees self.new (T.stand steps.new) (T.here steps.new) }
-        ensures unswept { IsSweeping self.new.alloc.stage → MetUnswept T.stand T.here T.did T.moved steps.old steps.new }
+        ensures { GoesOrStops T.stand T.here T.did T.moved asks_none self.old steps.old steps.new self.new result }
     {
         match self.allocator.turn(steps) {
             AllocTurn::Moved => {}
-            AllocTurn::Full => self.answers(call, Reply::Full, 0),
+            AllocTurn::Full => self.answers(call, Reply::Full),
             AllocTurn::Born(address) => self.bears(call, address),
         }
         Turn::Moved
@@ -52,7 +47,7 @@ impl Mutator {
     fn bears_for(&mut self, call: Call, r: u8, address: u32)
         requires room { length self.old.log < length self.old.calls }
         requires local { r < 16 }
-        ensures { self.new ≡ record self.old { locals = slice_set self.old.locals r address; log = said self.old call Ok address; task = Writes r address } }
+        ensures { self.new ≡ born self.old call r address }
     {
         self.locals[usize::from(r)] = address;
         self.says(call, Reply::Ok, address);

@@ -1,14 +1,16 @@
 //! Who lets calls begin.
 
 /// Whether a call may begin. A gate is asked before each poll for the call that would begin next.
+/// `told` is what it may say of a call: its thread, its number among the thread's calls, and the
+/// answer.
 pub trait Gate {
-    ghost use Rattle.std.specs.Prelude.{IsTrue};
+    ghost use Rattle.std.specs.Prelude.{ℕ, Bool};
 
-    ghost is_open: { Self → Type 0 };
+    ghost told: { Self → ℕ → ℕ → Bool → Type 0 };
 
-    /// Whether the call of this number may begin, of this thread. An open gate lets each one.
+    /// Whether the call of this number may begin, of this thread.
     fn pass(&self, thread: u8, call: u32) -> bool
-        ensures { is_open self.now → IsTrue result };
+        ensures { told self.now thread call result };
 }
 
 /// The gate that is always open.
@@ -16,7 +18,9 @@ pub trait Gate {
 pub struct OpenGate;
 
 impl Gate for OpenGate {
-    ghost is_open = { λ gate. Unit {0} };
+    ghost use Rattle.kn_mutator.specs.Turns.{lets_all};
+
+    ghost told = { λ gate. lets_all };
 
     #[inline(always)]
     fn pass(&self, _thread: u8, _call: u32) -> bool {

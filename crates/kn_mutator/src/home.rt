@@ -2,7 +2,7 @@
 ghost use Rattle.std.specs.Prelude.{◌≡◌};
 ghost use Rattle.kn_mutator.specs.declared.task.Task.TheVariants.{SendsSingle, Leaves, Ends};
 ghost use Rattle.kn_mutator.specs.Agree.{Agrees};
-ghost use Rattle.kn_mutator.specs.Turns.{Goes};
+ghost use Rattle.kn_mutator.specs.Turns.{Goes, asks_none};
 
 use crate::mutator::Mutator;
 use crate::task::Task;
@@ -17,7 +17,7 @@ impl Mutator {
     pub(crate) fn sends_single<T: Steps<Page>>(&mut self, steps: &mut T) -> Turn
         requires agrees { Agrees self.old (T.stand steps.old) (T.here steps.old) }
         requires task { self.old.task ≡ SendsSingle }
-        ensures { Goes T.stand T.here T.did T.moved self.old steps.old steps.new self.new result }
+        ensures { Goes T.stand T.here T.did T.moved asks_none self.old steps.old steps.new self.new result }
     {
         match self.allocator.put_home_turn(steps) {
             HomeTurn::Moved => {
@@ -34,7 +34,7 @@ impl Mutator {
     pub(crate) fn leaves<T: Steps<Page>>(&mut self, steps: &mut T) -> Turn
         requires agrees { Agrees self.old (T.stand steps.old) (T.here steps.old) }
         requires task { self.old.task ≡ Leaves }
-        ensures { Goes T.stand T.here T.did T.moved self.old steps.old steps.new self.new result }
+        ensures { Goes T.stand T.here T.did T.moved asks_none self.old steps.old steps.new self.new result }
     {
         match self.allocator.put_home_turn(steps) {
             HomeTurn::Moved => {}
@@ -50,7 +50,7 @@ impl Mutator {
     pub(crate) fn ends<T: Steps<Page>>(&mut self, steps: &mut T) -> Turn
         requires agrees { Agrees self.old (T.stand steps.old) (T.here steps.old) }
         requires task { self.old.task ≡ Ends }
-        ensures { Goes T.stand T.here T.did T.moved self.old steps.old steps.new self.new result }
+        ensures { Goes T.stand T.here T.did T.moved asks_none self.old steps.old steps.new self.new result }
     {
         match self.allocator.put_home_turn(steps) {
             HomeTurn::Moved => Turn::Moved,

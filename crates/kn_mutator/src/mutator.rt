@@ -1,7 +1,6 @@
 //! The mutator, and its turns in and out.
 ghost use Rattle.std.specs.Prelude.{◌≡◌, ℕ, ◌<◌, ◌↔◌, [], Bool, IfOk, IsTrue, length, slice_index, slice_index_or};
 ghost use Rattle.std.specs.List.{AllByRecursion};
-ghost use Rattle.kn_rule.specs.Allowed.{IsBuilt};
 ghost use Rattle.kn_rule.specs.Decoding.{phase_of};
 ghost use Rattle.kn_rule.specs.Rule.{fresh};
 ghost use Rattle.kn_steps.specs.Turns.{MetUnswept, OneTurn};
@@ -10,18 +9,18 @@ ghost use Rattle.kn_script.specs.Good.{IsGoodScript};
 ghost use Rattle.kn_script.specs.Scripts.{ground_of};
 ghost use Rattle.kn_alloc.specs.Agree.{IsSweeping};
 ghost use Rattle.kn_mutator.specs.declared.task.Task.TheVariants.{Out, GoesIn, Writes};
-ghost use Rattle.kn_mutator.specs.Mutating.{new_mutating};
+ghost use Rattle.kn_mutator.specs.Mutating.{IsMade, new_mutating};
 ghost use Rattle.kn_mutator.specs.Tasks;
 ghost use Rattle.kn_mutator.specs.After.{answered, assigned, referred, resting_task, said};
 ghost use Rattle.kn_mutator.specs.Agree.{Agrees, HasEnded};
-ghost use Rattle.kn_mutator.specs.Turns.{Goes, Turned};
+ghost use Rattle.kn_mutator.specs.Turns.{Goes, GoesOrStops, Turned, asks_none};
 
 use crate::gate::Gate;
 use crate::task::Task;
 use kn_alloc::ThreadAlloc;
 use kn_base::{Caller, Place, Sizes};
 use kn_graph::{Call, Entry, Event, Reply};
-use kn_layout::Layout;
+use kn_layout::{Layout, copy_layouts};
 use kn_page::Page;
 use kn_rule::Kind;
 use kn_script::Script;
@@ -76,16 +75,16 @@ impl Mutator {
     pub fn open(alloc: Global, script: &Script, i: u8) -> Result<Mutator, AllocError>
         requires good { IsGoodScript script.now }
         requires thread { i < length script.now.threads }
-        requires built { AllByRecursion IsBuilt (slice_index_or script.now.threads i []) }
+        requires made { AllByRecursion IsMade (slice_index_or script.now.threads i []) }
         ensures new { IfOk result (λ m. m ≡ new_mutating (ground_of script.now) i (slice_index_or script.now.threads i [])) }
         ensures agrees { IfOk result (λ m. (here : ℕ → Bool) →
             Agrees m (record { heap = ground_of script.now; by = i; view = fresh (ground_of script.now) }) here) }
     {
-        let calls = Vec::from_slice(alloc, script.threads[usize::from(i)].as_slice())?;
+        let calls = calls_of(alloc, script, i)?;
         let log = Vec::with_capacity(alloc, calls.len())?;
         Ok(Mutator {
             sizes: script.sizes,
-            layouts: copied(alloc, &script.layouts)?,
+            layouts: copy_layouts(alloc, &script.layouts)?,
             by: i,
             task: first_task(&calls),
             calls,
@@ -98,14 +97,15 @@ impl Mutator {
     }
 
     /// Makes the next step of the task, or moves a page (`Turned` in `specs/Turns.antt`). It must not have
-    /// ended. `Idle` where it is out and the phase is one in which callers wait (`is_wait`), or where the
-    /// gate let no call pass; `Done` in the turn that stores that it has ended. Behind a turn that met an
-    /// unswept frame and left its allocator at a sweep it makes no more.
+    /// ended. A poll asks the gate for the call that would begin next, by its number. `Idle` where it is out
+    /// and the phase is one in which callers wait (`is_wait`), or where the gate let no call pass; `Done` in
+    /// the turn that stores that it has ended. Behind a turn that met an unswept frame and left its
+    /// allocator at a sweep it makes no more.
     #[inline(always)]
     pub fn turn<T: Steps<Page>, G: Gate>(&mut self, steps: &mut T, gate: &G) -> Turn
         requires agrees { Agrees self.old (T.stand steps.old) (T.here steps.old) }
         requires going { ¬ HasEnded self.old.task }
-        ensures turned { Turned T.stand T.here T.did T.moved (G.is_open gate.now) self.old steps.old steps.new self.new result }
+        ensures turned { Turned T.stand T.here T.did T.moved (G.told gate.now) self.old steps.old steps.new self.new result }
         ensures agrees { (¬ IsSweeping self.new.alloc.stage) → Agrees self.new (T.stand steps.new) (T.here steps.new) }
         ensures one { OneTurn T.stand T.here T.did T.moved steps.old steps.new }
         ensures unswept { IsSweeping self.new.alloc.stage → MetUnswept T.stand T.here T.did T.moved steps.old steps.new }
@@ -117,9 +117,7 @@ impl Mutator {
     fn goes_on<T: Steps<Page>, G: Gate>(&mut self, steps: &mut T, gate: &G) -> Turn
         requires agrees { Agrees self.old (T.stand steps.old) (T.here steps.old) }
         requires going { ¬ HasEnded self.old.task }
-        ensures turned { Turned T.stand T.here T.did T.moved (G.is_open gate.now) self.old steps.old steps.new self.new result }
-        ensures agrees { (¬ IsSweeping self.new.alloc.stage) → Agrees self.new (T.stand steps.new) (T.here steps.new) }
-        ensures unswept { IsSweeping self.new.alloc.stage → MetUnswept T.stand T.here T.did T.moved steps.old steps.new }
+        ensures { GoesOrStops T.stand T.here T.did T.moved (G.told gate.now) self.old steps.old steps.new self.new result }
     {
         match self.task {
             Task::Out => self.looks(steps),
@@ -161,7 +159,7 @@ impl Mutator {
     fn looks<T: Steps<Page>>(&mut self, steps: &mut T) -> Turn
         requires agrees { Agrees self.old (T.stand steps.old) (T.here steps.old) }
         requires task { self.old.task ≡ Out }
-        ensures { Goes T.stand T.here T.did T.moved self.old steps.old steps.new self.new result }
+        ensures { Goes T.stand T.here T.did T.moved asks_none self.old steps.old steps.new self.new result }
     {
         let word = steps.poll(None);
         if runs(word) {
@@ -175,7 +173,7 @@ impl Mutator {
     fn goes_in<T: Steps<Page>>(&mut self, steps: &mut T) -> Turn
         requires agrees { Agrees self.old (T.stand steps.old) (T.here steps.old) }
         requires task { self.old.task ≡ GoesIn }
-        ensures { Goes T.stand T.here T.did T.moved self.old steps.old steps.new self.new result }
+        ensures { Goes T.stand T.here T.did T.moved asks_none self.old steps.old steps.new self.new result }
     {
         steps.store(Place::State(self.by), 1, Kind::K2);
         self.goes_to(Task::Enters);
@@ -185,7 +183,7 @@ impl Mutator {
     fn writes<T: Steps<Page>>(&mut self, steps: &mut T, local: u8, value: u32) -> Turn
         requires agrees { Agrees self.old (T.stand steps.old) (T.here steps.old) }
         requires task { self.old.task ≡ Writes local value }
-        ensures { Goes T.stand T.here T.did T.moved self.old steps.old steps.new self.new result }
+        ensures { Goes T.stand T.here T.did T.moved asks_none self.old steps.old steps.new self.new result }
     {
         steps.store(Place::Local(self.by, local), u64::from(value), Kind::K3);
         self.rests();
@@ -218,7 +216,7 @@ impl Mutator {
     {
         self.task = if self.begun as usize >= self.calls.len() {
             Task::Ends
-        } else if self.allocator.owns_single() {
+        } else if self.allocator.has_single() {
             Task::SendsSingle
         } else {
             Task::Polls
@@ -241,11 +239,11 @@ impl Mutator {
     }
 
     // A call is answered, and nothing is due of it.
-    pub(crate) fn answers(&mut self, call: Call, reply: Reply, address: u32)
+    pub(crate) fn answers(&mut self, call: Call, reply: Reply)
         requires { length self.old.log < length self.old.calls }
-        ensures { self.new ≡ answered self.old call reply address }
+        ensures { self.new ≡ answered self.old call reply }
     {
-        self.says(call, reply, address);
+        self.says(call, reply, 0);
         self.rests();
     }
 
@@ -256,7 +254,7 @@ impl Mutator {
         ensures { self.new ≡ assigned self.old call r value }
     {
         self.locals[usize::from(r)] = value;
-        self.answers(call, Reply::Ok, 0);
+        self.answers(call, Reply::Ok);
     }
 
     // A reference was read into a local, whose store is due.
@@ -269,6 +267,14 @@ impl Mutator {
         self.says(call, reply_to_reference(address), 0);
         self.task = Task::Writes(r, address);
     }
+}
+
+// The calls of thread i.
+fn calls_of(alloc: Global, script: &Script, i: u8) -> Result<Vec<Call>, AllocError>
+    requires { i < length script.now.threads }
+    ensures { IfOk result (λ calls. calls.items ≡ slice_index_or script.now.threads i []) }
+{
+    Vec::from_slice(alloc, script.threads[usize::from(i)].as_slice())
 }
 
 // A thread without calls ends at once.
@@ -304,14 +310,4 @@ fn idle_at(word: u64, idle: bool) -> Turn
     } else {
         Turn::Moved
     }
-}
-
-fn copied(alloc: Global, layouts: &[Layout]) -> Result<Vec<Layout>, AllocError>
-    ensures { IfOk result (λ copies. copies.items ≡ layouts.now) }
-{
-    let mut copies = Vec::with_capacity(alloc, layouts.len())?;
-    for layout in layouts {
-        copies.push(layout.copy(alloc)?)?;
-    }
-    Ok(copies)
 }

@@ -12,7 +12,7 @@ ghost use Rattle.kn_mutator.specs.declared.task.Task.TheVariants.{Enters, Polls}
 ghost use Rattle.kn_mutator.specs.Tasks;
 ghost use Rattle.kn_mutator.specs.Agree.{Agrees};
 ghost use Rattle.kn_mutator.specs.Begun.{Begins, Hears, IsRequestFor};
-ghost use Rattle.kn_mutator.specs.Turns.{Turned};
+ghost use Rattle.kn_mutator.specs.Turns.{Goes};
 
 use crate::gate::Gate;
 use crate::mutator::Mutator;
@@ -31,8 +31,7 @@ impl Mutator {
     pub(crate) fn polls<T: Steps<Page>, G: Gate>(&mut self, steps: &mut T, gate: &G) -> Turn
         requires agrees { Agrees self.old (T.stand steps.old) (T.here steps.old) }
         requires task { (self.old.task ≡ Enters) ⊎ (self.old.task ≡ Polls) }
-        ensures turned { Turned T.stand T.here T.did T.moved (G.is_open gate.now) self.old steps.old steps.new self.new result }
-        ensures agrees { Agrees self.new (T.stand steps.new) (T.here steps.new) }
+        ensures { Goes T.stand T.here T.did T.moved (G.told gate.now) self.old steps.old steps.new self.new result }
     {
         let passed = gate.pass(self.by, self.begun);
         let next = self.next_call(passed);
@@ -97,7 +96,7 @@ impl Mutator {
     {
         self.begun += 1;
         match answer_alone(&self.sizes, self.layouts.as_slice(), &self.locals, call) {
-            Some(reply) => self.answers(call, reply, 0),
+            Some(reply) => self.answers(call, reply),
             None => match self.request_of(call) {
                 Some(request) => {
                     self.allocator.start(request, self.epoch);

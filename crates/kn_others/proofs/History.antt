@@ -6,7 +6,7 @@ use Rattle.kn_rule.specs.Outcomes.{outcome}
 use Rattle.kn_board.specs.Room.{IsAtMostACall}
 use Rattle.kn_board.specs.World.{World, view_at}
 use Rattle.kn_others.specs.Laws.{GrowsBy, HistoryGrows}
-use Rattle.kn_others.proofs.Says.{outcome_says}
+use Rattle.kn_board.proofs.Leavings.{outcome_leaves}
 
 grows : (c : ℕ) (h says : List Entry) → IsAtMostACall c says → GrowsBy c h (more h says)
 grows c h [] m = inl refl
@@ -14,9 +14,9 @@ grows c h (entry ∷ []) m = inr (entry, m.0, refl)
 grows c h (entry ∷ next ∷ rest) m = absurd m
 
 pub history_grows : HistoryGrows
-history_grows w w' c sound less (inl one) =
+history_grows w w' c (inl one) =
     let d = one.step in
     subst (λ (u : World). GrowsBy c w.history u.history) (sym one.kept.1.0)
     (grows c w.history (outcome w.heap c (view_at w c) d.place d.act one.found d.kind).says
-    (outcome_says w.heap c (view_at w c) d.place d.act one.found d.kind))
-history_grows w w' c sound less (inr one) = subst (λ (u : World). GrowsBy c w.history u.history) (sym one.kept.1.0) (inl refl)
+    (outcome_leaves w.heap c (view_at w c) d.place d.act one.found d.kind).1)
+history_grows w w' c (inr one) = subst (λ (u : World). GrowsBy c w.history u.history) (sym one.kept.1.0) (inl refl)

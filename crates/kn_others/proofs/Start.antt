@@ -20,10 +20,10 @@ unfolding frame_of
 vacant = refl
 
 pub opened_is_swept : OpenedIsSwept
-opened_is_swept z pages good = (
+opened_is_swept z pages = (
   λ p l e.
       let zero_is : slice_index (replicate (table_words z.sizes) 0) (index z.sizes (Frame p)) ≡ 0 =
       all_same 0 (table_words z.sizes) (index z.sizes (Frame p)) in
       let y : frames.Vacant ≡ frames.Unswept = sym (ap (λ n. (frame_of n).kind) zero_is ∙ vacant) ∙ e in absurd (cc),
-  λ c l. all_same (fresh z) (callers z.sizes) c,
+  λ c. all_same (fresh z) (callers z.sizes) c,
 )

@@ -12,7 +12,7 @@ use Rattle.kn_base.proofs.Updates.{upd_case}
 use Rattle.kn_graph.specs.Ground.{Ground, IsGoodGround}
 use Rattle.kn_rule.specs.declared.steps.Kind.{Kind}
 use Rattle.kn_rule.specs.declared.steps.Kind.TheVariants.{K1, K2, K3, K4, K5, K6}
-use Rattle.kn_rule.specs.declared.steps.Kind.TheVariants.{K7, K8, K9, K10, K11, K12}
+use Rattle.kn_rule.specs.declared.steps.Kind.TheVariants.{K7, K8, K9, K10, K11, K12, K13, K14, K15, K16}
 use Rattle.kn_rule.specs.declared.steps.Action.{Action}
 use Rattle.kn_rule.specs.Decoding.{frame_of, PacksFrame}
 use Rattle.kn_rule.specs.FrameSpans.{frame_span}
@@ -20,12 +20,12 @@ use Rattle.kn_rule.specs.Places.{Within, index, put}
 use Rattle.kn_rule.specs.Views.{View, State, owns}
 use Rattle.kn_rule.specs.Requests.{class_for, class_where, owned_word}
 use Rattle.kn_rule.specs.Steps.{Step, Found, callers, epoch_in, word_after}
-use Rattle.kn_rule.specs.Allowed.{MayBe, MayMake, MayClaim, MayGiveBack}
+use Rattle.kn_rule.specs.Allowed.{MayBe, MayMake, MayClaim, MayGiveBack, MayWant, MayCount}
 use Rattle.kn_rule.specs.Rule.{Rule}
 use Rattle.kn_rule.proofs.Indexes.{places_lie, words_are_set}
 use Rattle.kn_keep_heap.proofs.NextWord.{request_two}
 use Rattle.kn_keep_heap.proofs.BirthLaw.{class_at, epoch_small}
-use Rattle.kn_keep_heap.proofs.Withins.{steps_lie_within}
+use Rattle.kn_keep_mark.proofs.Withins.{steps_lie_within}
 use Rattle.kn_board.specs.World.{World, StandsFor, word_at, view_at, lies_at, world_after}
 use Rattle.kn_others.specs.Laws.{NoneUnswept, NoneComesUnswept}
 use Rattle.kn_others.proofs.Stored.{claimed_swept, home_swept}
@@ -90,6 +90,14 @@ module _ (w : World) (good : IsGoodGround w.heap) (s : State) (rule : Rule w.hea
         (at_frame m.frame _ (λ near. home_swept m.hold.word (packs m.frame m.hold.word near (sym (word_is m.frame near ∙ o.1)))
         (ap (λ n. (frame_of n).kind) (sym o.1) ∙ o.2) (frame_span z.sizes m.frame) m.hold.free)))
 
+    want_swept : (n : ℕ) (p : Place) (a : Action) → MayWant z c x (lies_at w) p a → Swept p (word_after a n)
+    want_swept n p a (inl m) = subst (λ q. Swept q (word_after a n)) (sym m.place) none
+    want_swept n p a (inr m) = subst (λ q. Swept q (word_after a n)) (sym m.place) none
+
+    count_swept : (n : ℕ) (p : Place) (a : Action) → MayCount z c x (lies_at w) p a → Swept p (word_after a n)
+    count_swept n p a (inl m) = subst (λ q. Swept q (word_after a n)) (sym m.place) none
+    count_swept n p a (inr m) = subst (λ q. Swept q (word_after a n)) (sym m.place) none
+
     swept_by : (n : ℕ) (k : Kind) (p : Place) (a : Action) → MayBe z c x (lies_at w) k p a → n ≡ word_at w p → Swept p (word_after a n)
     swept_by n K1 p a m is = subst (λ q. Swept q (word_after a n)) (sym m.place) none
     swept_by n K2 p a m is = subst (λ q. Swept q (word_after a n)) (sym m.place) none
@@ -107,6 +115,10 @@ module _ (w : World) (good : IsGoodGround w.heap) (s : State) (rule : Rule w.hea
         (at_frame m.frame _ (λ near. claimed n p a m (is ∙ ap (word_at w) m.place) (eqb_tells n m.old))))
     swept_by n K11 p a m is = given_back n p a m
     swept_by n K12 p a m is = subst (λ q. Swept q (word_after a n)) (sym m.place) none
+    swept_by n K13 p a m is = want_swept n p a m
+    swept_by n K14 p a m is = subst (λ q. Swept q (word_after a n)) (sym m.place) none
+    swept_by n K15 p a m is = subst (λ q. Swept q (word_after a n)) (sym m.place) none
+    swept_by n K16 p a m is = count_swept n p a m
     swept_by n _ p a m is = absurd m
 
     pub swept_after : (d : Step) (f : Found) → MayMake z c x (lies_at w) d → f.word ≡ word_at w d.place →

@@ -5,7 +5,7 @@ use Rattle.kn_base.specs.declared.kinds.FrameKind.TheVariants as frames
 use Rattle.kn_base.specs.Sizes.{frame_count}
 use Rattle.kn_base.specs.Pages.{FrameView}
 use Rattle.kn_graph.specs.declared.entries.Entry.{Entry}
-use Rattle.kn_graph.specs.Ground.{Ground, IsGoodGround}
+use Rattle.kn_graph.specs.Ground.{Ground}
 use Rattle.kn_rule.specs.Decoding.{frame_of}
 use Rattle.kn_rule.specs.Steps.{callers}
 use Rattle.kn_rule.specs.Rule.{fresh}
@@ -34,7 +34,7 @@ GrowsBy c h h' = (h' ≡ h) ⊎ ((entry : Entry) × (entry.by.0 ≡ c) × (h' �
 
 -- a turn says nothing, or one entry of its caller
 abbrev pub HistoryGrows : Type 0
-HistoryGrows = (w w' : World) (c : ℕ) → Sound w → c < callers w.heap.sizes → Turn c w w' → GrowsBy c w.history w'.history
+HistoryGrows = (w w' : World) (c : ℕ) → Turn c w w' → GrowsBy c w.history w'.history
 
 -- no frame of the board is unswept
 abbrev pub NoneUnswept : World → Type 0
@@ -47,8 +47,7 @@ NoneComesUnswept = (w w' : World) (c : ℕ) → Sound w → c < callers w.heap.s
 -- at the start no frame is unswept, and the view of each caller is that of one that has made no step
 abbrev pub OpenedIsSwept : Type 0
 OpenedIsSwept =
-    (z : Ground) (pages : List FrameView) → IsGoodGround z →
-    NoneUnswept (opened z pages) × ((c : ℕ) → c < callers z.sizes → view_at (opened z pages) c ≡ fresh z)
+    (z : Ground) (pages : List FrameView) → NoneUnswept (opened z pages) × ((c : ℕ) → view_at (opened z pages) c ≡ fresh z)
 
 -- where no frame is unswept, no step meets one
 abbrev pub NoneIsMet : Type 0

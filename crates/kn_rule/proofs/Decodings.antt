@@ -4,9 +4,12 @@ use Rattle.kn_base.specs.declared.kinds.FrameKind.{FrameKind}
 use Rattle.kn_base.specs.declared.kinds.FrameKind.TheVariants as frames
 use Rattle.kn_base.specs.declared.frame_word.FrameWord.{FrameWord}
 use Rattle.kn_base.specs.declared.header_word.HeaderWord.{HeaderWord}
-use Rattle.kn_base.specs.Kinds.{frame_kind_number}
-use Rattle.kn_base.specs.Words.{IsFrameWord, packed_frame, IsHeaderWord, packed_header, HasClass, HasStamp, HasSeat}
-use Rattle.kn_rule.specs.Decoding.{frame_of, header_of, frame_kind_of, PacksFrame}
+use Rattle.kn_base.specs.declared.kinds.Code.{Code}
+use Rattle.kn_base.specs.declared.kinds.Code.TheVariants as codes
+use Rattle.kn_base.specs.declared.phase_word.PhaseWord.{PhaseWord}
+use Rattle.kn_base.specs.Kinds.{code_number, frame_kind_number}
+use Rattle.kn_base.specs.Words.{IsPhaseWord, packed_phase, IsFrameWord, packed_frame, IsHeaderWord, packed_header, HasClass, HasStamp, HasSeat}
+use Rattle.kn_rule.specs.Decoding.{phase_of, frame_of, header_of, code_of, frame_kind_of, PacksPhase, PacksFrame}
 
 pub header_packed : (v : HeaderWord) → IsHeaderWord v → header_of (packed_header v) ≡ v
 unfolding header_of
@@ -67,3 +70,36 @@ pub frame_packs : (v : FrameWord) → IsFrameWord v → PacksFrame (packed_frame
 frame_packs v h =
     let back = frame_packed v h in
     record { right = ap packed_frame back; ranges = subst IsFrameWord (sym back) h }
+
+code_back : (c : Code) → code_of (code_number c) ≡ c
+code_back codes.Idle = refl
+code_back codes.StopA = refl
+code_back codes.Mark = refl
+code_back codes.Weak = refl
+code_back codes.StopB = refl
+code_back codes.Prep = refl
+code_back codes.Sweep = refl
+
+pub code_small : (c : Code) → code_number c < 8
+code_small codes.Idle = omega arith
+code_small codes.StopA = omega arith
+code_small codes.Mark = omega arith
+code_small codes.Weak = omega arith
+code_small codes.StopB = omega arith
+code_small codes.Prep = omega arith
+code_small codes.Sweep = omega arith
+
+pub phase_packed : (v : PhaseWord) → phase_of (packed_phase v) ≡ v
+unfolding phase_of
+phase_packed v =
+    let number = code_number v.code in
+    let small = code_small v.code in
+    let a : (8 * v.epoch + number) / 8 ≡ v.epoch = omega (arith, small) in
+    let b : (8 * v.epoch + number) % 8 ≡ number = omega (arith, small) in
+    λ t. record { epoch = a t; code = (ap code_of b ∙ code_back v.code) t }
+
+-- the number of a phase word in range packs one
+pub phase_packs : (v : PhaseWord) → IsPhaseWord v → PacksPhase (packed_phase v)
+phase_packs v h =
+    let back = phase_packed v in
+    record { right = ap packed_phase back; ranges = subst IsPhaseWord (sym back) h }

@@ -3,4 +3,7 @@ pub mod Searched
 pub mod Indexes
 pub mod Decodings
 pub mod FrameSpans
+pub mod WholeFrames
 pub mod Rows
+pub mod Stops
+mod Tellings

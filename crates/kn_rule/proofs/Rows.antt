@@ -21,7 +21,7 @@ use Rattle.kn_rule.specs.Allowed.{MayBirth, MayClaim, MayClear, MayGiveBack}
 use Rattle.kn_rule.specs.Moves.{stepped}
 use Rattle.kn_rule.specs.Rule.{start}
 
-abbrev ground : ℕ → Ground
+abbrev pub ground : ℕ → Ground
 ground words = record {
   sizes = record {
     small = 1;
@@ -42,7 +42,7 @@ ground words = record {
 }
 
 -- the page as it lies at the start
-abbrev whole : ℕ → FrameView
+abbrev pub whole : ℕ → FrameView
 whole words = record {
   frame = record { start = 1; len = words };
   class = 2;

@@ -51,6 +51,10 @@ none_done : 0 ≡ last_done (phase_of 0)
 unfolding phase_of
 none_done = refl
 
+first_epoch : (phase_of 0).epoch ≡ 0
+unfolding phase_of
+first_epoch = refl
+
 vacant : (frame_of 0).kind ≡ frames.Vacant
 unfolding frame_of
 vacant = refl
@@ -99,6 +103,8 @@ start_meets_rule z page home = (
       at_end = record { seen = λ i l e. absurd (not_seen z.sizes.threads i e); all = λ e. absurd (cc) };
       polling = record { since = λ c l i. absurd i; untargeted = λ c l i. refl; targets = λ c l. tt };
       owners = record { each = λ c p o l e. absurd (no_open (frame_count z.sizes) p o e) };
+      stopped = record { still = λ h i l x. x; stopping = λ h i l e x. x };
+      wanted = record { reached = omega (arith, first_epoch); known = omega arith; targets = λ e a b. absurd (omega arith); few = omega arith };
       framed = record {
         packs = λ p l. frame_zero;
         named = λ p l e. let h : frames.Vacant ≡ frames.Owned = sym vacant ∙ e in absurd (cc);

@@ -1,27 +1,30 @@
 -- When a caller's view allows a step of each kind.
-use Rattle.std.specs.Prelude.{◌≡◌, ◌≢◌, ℕ, ◌+◌, ◌*◌, ◌<◌, ◌⊎◌, Bool, true, false, Option, Some, None, IsTrue, slice_get}
+use Rattle.std.specs.Prelude.{◌≡◌, ◌≢◌, ℕ, ◌+◌, ◌*◌, ◌<◌, ◌≤◌, ◌⊎◌, Bool, List, true, false, Option, Some, None}
+use Rattle.std.specs.Prelude.{IsTrue, slice_get}
 use Rattle.std.specs.Prelude.{slice_index}
 use Rattle.kn_base.specs.declared.places.Place.{Place}
-use Rattle.kn_base.specs.declared.places.Place.TheVariants.{Phase, State, Local, Global, Frame, Side, Body}
-use Rattle.kn_base.specs.Words.{packed_frame}
+use Rattle.kn_base.specs.declared.places.Place.TheVariants.{Phase, Want, Pending, State, Local, Global, Frame, Side, Body}
+use Rattle.kn_base.specs.declared.kinds.Code.TheVariants as codes
+use Rattle.kn_base.specs.declared.phase_word.PhaseWord.{PhaseWord}
+use Rattle.kn_base.specs.Words.{packed_phase, packed_frame}
 use Rattle.kn_base.specs.Sizes.{frame_count}
 use Rattle.kn_base.specs.Spans.{LiesIn}
 use Rattle.kn_layout.specs.declared.layouts.FieldKind.{FieldKind}
 use Rattle.kn_layout.specs.declared.layouts.FieldKind.TheVariants.{Ref as of_ref, Int as of_int}
 use Rattle.kn_graph.specs.declared.calls.Call.{Call}
-use Rattle.kn_graph.specs.declared.calls.Call.TheVariants.{New, NewArray, Copy, Clear, Same, Get, Set, Put, Read, GlobalSet, GlobalGet}
+use Rattle.kn_graph.specs.declared.calls.Call.TheVariants.{New, NewArray, Copy, Clear, Same, Get, Set, Put, Read, GlobalSet, GlobalGet, Collect}
 use Rattle.kn_graph.specs.Ground.{Ground}
 use Rattle.kn_graph.specs.Arguments.{IsInRange}
 use Rattle.kn_graph.specs.Counts.{makes_object}
 use Rattle.kn_rule.specs.declared.steps.Kind.{Kind}
 use Rattle.kn_rule.specs.declared.steps.Kind.TheVariants.{K1, K2, K3, K4, K5, K6}
-use Rattle.kn_rule.specs.declared.steps.Kind.TheVariants.{K7, K8, K9, K10, K11, K12}
+use Rattle.kn_rule.specs.declared.steps.Kind.TheVariants.{K7, K8, K9, K10, K11, K12, K13, K14, K15, K16}
 use Rattle.kn_rule.specs.declared.steps.Action.{Action}
-use Rattle.kn_rule.specs.declared.steps.Action.TheVariants.{Loads, LoadsFor, Stores, Swaps}
+use Rattle.kn_rule.specs.declared.steps.Action.TheVariants.{Loads, LoadsFor, Stores, Swaps, Raises}
 use Rattle.kn_rule.specs.declared.positions.Position.{Position}
-use Rattle.kn_rule.specs.declared.positions.Position.TheVariants.{Out, Entering, Between, Calling, Writing, Leaving}
+use Rattle.kn_rule.specs.declared.positions.Position.TheVariants.{Out, Entering, Between, Calling, Writing, Waiting, Leaving}
 use Rattle.kn_rule.specs.declared.parts.Taken.{Taken}
-use Rattle.kn_rule.specs.Decoding.{frame_of}
+use Rattle.kn_rule.specs.Decoding.{frame_of, phase_of}
 use Rattle.kn_rule.specs.FrameSpans.{frame_span}
 use Rattle.kn_rule.specs.Views.{View, Open, owns, local_of}
 use Rattle.kn_rule.specs.Requests.{birth_of, words_asked, class_asked, InArea, is_usable, IsCellOf, AreFree, home_word, owned_word}
@@ -42,6 +45,7 @@ IsBuilt (Put s f n) = Unit {0}
 IsBuilt (Read s f) = Unit {0}
 IsBuilt (GlobalSet i r) = Unit {0}
 IsBuilt (GlobalGet r i) = Unit {0}
+IsBuilt Collect = Unit {0}
 IsBuilt _ = ⊥
 
 -- the view v of caller c; `here` p says whether the page of the owned frame p lies in its slot
@@ -49,8 +53,8 @@ module _ (z : Ground) (c : ℕ) (v : View) (here : ℕ → Bool) where
   abbrev OwnsNone : Type 0
   OwnsNone = (k : ℕ) → owns v k ≡ None
 
-  -- a poll: by a mutator that is out, or by one that is entering or between calls and wants no epoch; then a call may begin
-  -- that is built and in range, and that is left for the thread
+  -- a poll: by a mutator that is out, waits for an epoch, or is entering or between calls; where it wants no epoch, a call may
+  -- begin that is built and in range, and that is left for the thread
   pub record MayBegin (call : Call) : Type 0 where
     pub built : IsBuilt call
     pub in_range : IsInRange z call
@@ -61,10 +65,15 @@ module _ (z : Ground) (c : ℕ) (v : View) (here : ℕ → Bool) where
   MayNext None = Unit {0}
   MayNext (Some call) = MayBegin call
 
+  abbrev pub MayEnterFor : Option ℕ → Option Call → Type 0
+  MayEnterFor None next = MayNext next
+  MayEnterFor (Some n) next = next ≡ None
+
   abbrev pub MayPollAt : Position → Option Call → Type 0
   MayPollAt Out next = next ≡ None
-  MayPollAt Entering next = (v.target ≡ None) × MayNext next
+  MayPollAt Entering next = MayEnterFor v.target next
   MayPollAt Between next = (v.target ≡ None) × MayNext next
+  MayPollAt Waiting next = next ≡ None
   MayPollAt _ next = ⊥
 
   pub record MayPoll (p : Place) (a : Action) : Type 0 where
@@ -74,8 +83,8 @@ module _ (z : Ground) (c : ℕ) (v : View) (here : ℕ → Bool) where
     pub thread : c < z.sizes.threads
     pub may : MayPollAt v.position next
 
-  -- a store of the state: 1 by one that is out; 0 by one that is entering or leaving and owns no frame; 2 by one that is out or
-  -- between calls, has answered all its calls and owns no frame
+  -- a store of a mutator's state: 1 by one that is out; 0 by one that is entering or leaving and owns no frame; 2 by one that is
+  -- out or between calls, has answered all its calls and owns no frame
   abbrev MayEnd : Type 0
   MayEnd = (v.target ≡ None) × (v.calls ≡ slice_index z.sizes.calls c) × OwnsNone
 
@@ -86,12 +95,30 @@ module _ (z : Ground) (c : ℕ) (v : View) (here : ℕ → Bool) where
   MayGo Between n = (n ≡ 2) × MayEnd
   MayGo _ n = ⊥
 
+  abbrev pub now : PhaseWord
+  now = phase_of v.collecting.stored
+
+  abbrev pub EachIs : List Bool → Type 0
+  EachIs flags = (i : ℕ) → i < z.sizes.threads → slice_get flags i ≡ Some true
+
+  -- the collector makes a step: it has not ended
+  pub record Collects : Type 0 where
+    pub collector : c ≡ z.sizes.threads
+    pub going : v.position ≡ Out
+
+  -- the collector ends: it has seen each mutator ended, and no epoch is wanted that is not done
+  pub record MayStopCollecting (n : ℕ) : Type 0 where
+    pub collects : Collects
+    pub value : n ≡ 2
+    pub idle : now.code ≡ codes.Idle
+    pub ended : EachIs v.collecting.ended
+    pub none_wanted : v.collecting.wanted ≤ now.epoch
+
   pub record MayStoreState (p : Place) (a : Action) : Type 0 where
     pub value : ℕ
     pub place : p ≡ State c
     pub word : a ≡ Stores value
-    pub thread : c < z.sizes.threads
-    pub may : MayGo v.position value
+    pub may : ((c < z.sizes.threads) × MayGo v.position value) ⊎ MayStopCollecting value
 
   -- a store of a local: the value that is due, or that of `copy` or `clear`
   abbrev pub MayWriteAt : Position → ℕ → ℕ → Type 0
@@ -266,6 +293,69 @@ module _ (z : Ground) (c : ℕ) (v : View) (here : ℕ → Bool) where
     pub may : MayClearFor call v.taken address value
     pub thread : c < z.sizes.threads
 
+  -- the epoch wanted is raised by a mutator whose `gc` has begun, to the one behind its own; in Idle the collector loads it
+  pub record MayRaise (p : Place) (a : Action) : Type 0 where
+    pub place : p ≡ Want
+    pub act : a ≡ Raises (epoch_in v + 1)
+    pub is_call : v.position ≡ Calling Collect
+    pub thread : c < z.sizes.threads
+
+  pub record MayLoadWant (p : Place) (a : Action) : Type 0 where
+    pub place : p ≡ Want
+    pub act : a ≡ Loads
+    pub collects : Collects
+    pub idle : now.code ≡ codes.Idle
+
+  abbrev pub MayWant : Place → Action → Type 0
+  MayWant p a = MayRaise p a ⊎ MayLoadWant p a
+
+  -- the phase that the collector stores next: the stop before an epoch that is wanted; Mark, where each mutator was counted in this
+  -- stop and the marking was begun
+  pub record MayStop (w : ℕ) : Type 0 where
+    pub idle : now.code ≡ codes.Idle
+    pub wanted : now.epoch < v.collecting.wanted
+    pub value : w ≡ packed_phase (record { epoch = now.epoch + 1; code = codes.StopA })
+
+  pub record MayMark (w : ℕ) : Type 0 where
+    pub stopped : now.code ≡ codes.StopA
+    pub counted : EachIs v.collecting.counted
+    pub begun : v.collecting.over ≡ false
+    pub value : w ≡ packed_phase (record { epoch = now.epoch; code = codes.Mark })
+
+  pub record MayStorePhase (p : Place) (a : Action) : Type 0 where
+    pub value : ℕ
+    pub place : p ≡ Phase
+    pub act : a ≡ Stores value
+    pub collects : Collects
+    pub may : MayStop value ⊎ MayMark value
+
+  -- the collector loads a mutator's state
+  pub record MayLoadState (p : Place) (a : Action) : Type 0 where
+    pub mutator : ℕ
+    pub near : mutator < z.sizes.threads
+    pub place : p ≡ State mutator
+    pub act : a ≡ Loads
+    pub collects : Collects
+
+  -- the marking begins, once in a stop, where each mutator was counted in it: a unit of work is open for each root set; in Mark
+  -- the count of open work is loaded
+  pub record MayBeginMarking (p : Place) (a : Action) : Type 0 where
+    pub place : p ≡ Pending
+    pub act : a ≡ Stores (z.sizes.threads + 2)
+    pub collects : Collects
+    pub stopped : now.code ≡ codes.StopA
+    pub counted : EachIs v.collecting.counted
+    pub once : v.collecting.over ≡ true
+
+  pub record MayLoadPending (p : Place) (a : Action) : Type 0 where
+    pub place : p ≡ Pending
+    pub act : a ≡ Loads
+    pub collects : Collects
+    pub marks : now.code ≡ codes.Mark
+
+  abbrev pub MayCount : Place → Action → Type 0
+  MayCount p a = MayBeginMarking p a ⊎ MayLoadPending p a
+
   -- a step of the kind, at the place and with the action; kinds that are not built are allowed in no view
   abbrev pub MayBe : Kind → Place → Action → Type 0
   MayBe K1 = MayPoll
@@ -280,6 +370,10 @@ module _ (z : Ground) (c : ℕ) (v : View) (here : ℕ → Bool) where
   MayBe K10 = MayClaim
   MayBe K11 = MayGiveBack
   MayBe K12 = MayClear
+  MayBe K13 = MayWant
+  MayBe K14 = MayStorePhase
+  MayBe K15 = MayLoadState
+  MayBe K16 = MayCount
   MayBe _ = λ p a. ⊥
 
   abbrev pub MayMake : Step → Type 0

@@ -1,16 +1,22 @@
 -- The clauses of the rule on where callers stand, what they polled, and what they may own.
-use Rattle.std.specs.Prelude.{◌≡◌, ℕ, ◌+◌, ◌<◌, ◌≤◌, ◌⊎◌, true, Bool, List, Option, Some, None, slice_get}
-use Rattle.std.specs.List.{AllByRecursion}
+use Rattle.std.specs.Prelude.{◌≡◌, ℕ, ◌+◌, ◌<◌, ◌≤◌, ◌⊎◌, true, Bool, List, Option, Some, None, length, slice_get}
+use Rattle.std.specs.List.{AllByRecursion, Contains}
 use Rattle.kn_base.specs.declared.kinds.Code.{Code}
 use Rattle.kn_base.specs.declared.kinds.Code.TheVariants as codes
 use Rattle.kn_base.specs.declared.phase_word.PhaseWord.{PhaseWord}
+use Rattle.kn_graph.specs.declared.calls.Call.TheVariants.{Collect}
+use Rattle.kn_graph.specs.declared.calls.Reply.TheVariants as replies
+use Rattle.kn_graph.specs.declared.entries.Event.TheVariants as events
 use Rattle.kn_graph.specs.declared.entries.Entry.{Entry}
+use Rattle.kn_graph.specs.Logs.{calls_of}
 use Rattle.kn_graph.specs.Ground.{Ground}
 use Rattle.kn_rule.specs.declared.positions.Position.{Position}
 use Rattle.kn_rule.specs.declared.positions.Position.TheVariants.{Out, Between, Calling, Writing, Dropping, Adding, Waiting, Leaving, Ended}
 use Rattle.kn_rule.specs.Decoding.{phase_of}
+use Rattle.kn_rule.specs.Phases.{is_stop}
 use Rattle.kn_rule.specs.Views.{Open}
 use Rattle.kn_rule.specs.Steps.{callers}
+use Rattle.kn_rule.specs.Totals.{total}
 
 -- in, from the entering load to the leaving one
 abbrev pub IsIn : Position → Type 0
@@ -87,3 +93,38 @@ MayOwn z phase position c =
 -- an owned frame belongs to a mutator that is in or leaving, or to the collector in Sweep
 pub record Owners (z : Ground) (phase : ℕ) (position : ℕ → Position) (own : ℕ → ℕ → Option Open) : Type 0 where
   pub each : (c p : ℕ) (o : Open) → c < callers z.sizes → own c p ≡ Some o → MayOwn z phase position c
+
+-- callers stand still in Mark and in Prep
+abbrev pub IsStill : Code → Type 0
+IsStill codes.Mark = Unit {0}
+IsStill codes.Prep = Unit {0}
+IsStill _ = ⊥
+
+-- in Mark and in Prep no mutator is in or leaving; in a stop none is that was counted since the store of that phase
+pub record Stopped (z : Ground) (phase : ℕ) (position : ℕ → Position) (counted : ℕ → List Bool) : Type 0 where
+  pub still : IsStill (phase_of phase).code → (i : ℕ) → i < z.sizes.threads → ¬ IsInOrLeaving (position i)
+  pub stopping : is_stop (phase_of phase).code ≡ true → (i : ℕ) → i < z.sizes.threads → slice_get (counted z.sizes.threads) i ≡ Some true →
+      ¬ IsInOrLeaving (position i)
+
+-- an epoch is the target of a `gc` that a mutator has begun: one that is not answered, or one in its log
+abbrev pub HasAnswer : ℕ → List Entry → Type 0
+HasAnswer e log = (entry : Entry) × Contains log entry × (entry.what ≡ events.Call Collect (replies.Epoch e) 0)
+
+abbrev pub IsTargetOf : ℕ → Option ℕ → List Entry → Type 0
+IsTargetOf e target log = (target ≡ Some e) ⊎ HasAnswer e log
+
+abbrev pub IsWantedBySome : Ground → (ℕ → Option ℕ) → (ℕ → List Entry) → ℕ → Type 0
+IsWantedBySome z target log e = (c : ℕ) × (c < z.sizes.threads) × IsTargetOf e (target c) (log c)
+
+-- how many targets a caller has had at most, by its target and its log
+abbrev pub targets_had : Option ℕ → List Entry → ℕ
+targets_had None log = length (calls_of log)
+targets_had (Some n) log = length (calls_of log) + 1
+
+-- the epoch wanted is at least that of the phase, and the one that the collector loaded last; each epoch from 1 to it is the target
+-- of a `gc` that some mutator has begun; and it is at most the number of targets
+pub record Wanted (z : Ground) (phase want : ℕ) (target : ℕ → Option ℕ) (log : ℕ → List Entry) (loaded : ℕ) : Type 0 where
+  pub reached : (phase_of phase).epoch ≤ want
+  pub known : loaded ≤ want
+  pub targets : (e : ℕ) → 1 ≤ e → e ≤ want → IsWantedBySome z target log e
+  pub few : want ≤ total z.sizes.threads (λ c. targets_had (target c) (log c))

@@ -11,6 +11,7 @@ pub mod Allowed
 pub mod Moves
 pub mod HistoryClauses
 pub mod ObjectClauses
+pub mod Totals
 pub mod CallerClauses
 pub mod FrameClauses
 pub mod Rule

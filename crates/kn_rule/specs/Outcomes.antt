@@ -1,8 +1,9 @@
 -- What a step of each kind makes of its caller's view, and which entry it makes.
-use Rattle.std.specs.Prelude.{ℕ, ◌+◌, ◌==◌, Bool, true, false, cond, [], Option, Some, None, replicate, slice_set}
+use Rattle.std.specs.Prelude.{ℕ, ◌+◌, ◌==◌, Bool, true, false, cond, [], Option, Some, None, List, nat_le, replicate, slice_set}
 use Rattle.kn_base.specs.declared.numbers.Span.{Span}
 use Rattle.kn_base.specs.declared.heap.Sizes.{Sizes}
 use Rattle.kn_base.specs.declared.places.Place.{Place}
+use Rattle.kn_base.specs.declared.kinds.Code.{Code}
 use Rattle.kn_base.specs.declared.kinds.FrameKind.{FrameKind}
 use Rattle.kn_base.specs.declared.kinds.FrameKind.TheVariants as frames
 use Rattle.kn_base.specs.declared.classes.TheConstants.{NEXT_FIT_CLASS}
@@ -12,7 +13,7 @@ use Rattle.kn_base.specs.SpanLists.{without}
 use Rattle.kn_layout.specs.declared.layouts.FieldKind.{FieldKind}
 use Rattle.kn_layout.specs.declared.layouts.FieldKind.TheVariants.{Ref as of_ref, Int as of_int}
 use Rattle.kn_graph.specs.declared.calls.Call.{Call}
-use Rattle.kn_graph.specs.declared.calls.Call.TheVariants.{New, NewArray, Same, Get, Set, Put, Read, GlobalGet}
+use Rattle.kn_graph.specs.declared.calls.Call.TheVariants.{New, NewArray, Same, Get, Set, Put, Read, GlobalGet, Collect}
 use Rattle.kn_graph.specs.declared.calls.Reply.{Reply}
 use Rattle.kn_graph.specs.declared.calls.Reply.TheVariants as replies
 use Rattle.kn_graph.specs.Ground.{Ground}
@@ -20,18 +21,19 @@ use Rattle.kn_graph.specs.Answers.{yes_or_no}
 use Rattle.kn_graph.specs.Counts.{makes_object}
 use Rattle.kn_rule.specs.declared.steps.Kind.{Kind}
 use Rattle.kn_rule.specs.declared.steps.Kind.TheVariants.{K1, K2, K3, K4, K5, K6}
-use Rattle.kn_rule.specs.declared.steps.Kind.TheVariants.{K7, K8, K9, K10, K11, K12}
+use Rattle.kn_rule.specs.declared.steps.Kind.TheVariants.{K7, K8, K9, K10, K11, K12, K13, K14, K15, K16}
 use Rattle.kn_rule.specs.declared.steps.Action.{Action}
+use Rattle.kn_rule.specs.declared.steps.Action.TheVariants.{Stores}
 use Rattle.kn_rule.specs.declared.positions.Position.{Position}
-use Rattle.kn_rule.specs.declared.positions.Position.TheVariants.{Out, Entering, Between, Calling, Writing, Adding, Leaving, Ended}
+use Rattle.kn_rule.specs.declared.positions.Position.TheVariants.{Out, Entering, Between, Calling, Writing, Adding, Waiting, Leaving, Ended}
 use Rattle.kn_rule.specs.declared.parts.Taken.{Taken}
 use Rattle.kn_rule.specs.Decoding.{phase_of, frame_of}
 use Rattle.kn_rule.specs.FrameSpans.{frame_span, frame_at}
-use Rattle.kn_rule.specs.Phases.{is_run, pauses}
-use Rattle.kn_rule.specs.Views.{View, Open, Sweep, owns, local_of}
+use Rattle.kn_rule.specs.Phases.{is_run, is_stop, pauses, last_done}
+use Rattle.kn_rule.specs.Views.{View, Open, Sweep, Collecting, owns, local_of}
 use Rattle.kn_rule.specs.Requests.{birth_of, words_asked, class_asked, asks_too_much, field_of, told_kind}
 use Rattle.kn_rule.specs.Searches.{is_over, refuses_at}
-use Rattle.kn_rule.specs.Steps.{Found, Outcome, word_stored, word_wanted, next_of, frame_in, address_in, local_in, epoch_in, quietly, saying}
+use Rattle.kn_rule.specs.Steps.{Found, Outcome, word_stored, word_wanted, next_of, frame_in, address_in, local_in, state_in, epoch_in, quietly, saying}
 
 -- the reply where a reference was read
 abbrev pub ref_word : ℕ → Reply
@@ -88,9 +90,37 @@ module _ (z : Ground) (c : ℕ) (v : View) (p : Place) (a : Action) (f : Found) 
   poll_run None = quietly (record v { position = Between; polled = f.word })
   poll_run (Some call) = begin_with call (view_answer z v call)
 
+  -- the epoch n that a `gc` waits for is done: the call is answered; `word` is the phase word that was polled last
+  abbrev pub with_epoch : ℕ → View
+  with_epoch word = record v { position = Between; polled = word; target = None }
+
+  abbrev pub epoch_told : ℕ → ℕ → Outcome
+  epoch_told word n = saying c (pauses (phase_of f.word)) Collect (replies.Epoch n) 0 (with_epoch word)
+
+  -- it is not: a poll of a run phase goes on waiting
+  abbrev pub waits_on : Outcome
+  waits_on = quietly (record v { position = Waiting; polled = f.word })
+
+  abbrev pub is_done : ℕ → Bool
+  is_done n = nat_le n (last_done (phase_of f.word))
+
+  abbrev pub waited : ℕ → Outcome
+  waited n = cond (is_done n) (epoch_told f.word n) waits_on
+
+  abbrev pub enters_for : Option ℕ → Option Call → Outcome
+  enters_for None next = poll_run next
+  enters_for (Some n) next = waited n
+
+  -- one that waits, and finds a stop, leaves, and what it polled stays; but where its epoch is done, it is answered first
+  abbrev pub waits_at : Bool → Option ℕ → Outcome
+  waits_at run None = quietly v
+  waits_at true (Some n) = waited n
+  waits_at false (Some n) = cond (is_done n) (epoch_told v.polled n) (quietly (record v { position = Leaving }))
+
   abbrev pub poll_at : Position → Bool → Option Call → Outcome
-  poll_at Entering run next = cond run (poll_run next) (quietly v)
+  poll_at Entering run next = cond run (enters_for v.target next) (quietly v)
   poll_at Between run next = cond run (poll_run next) (quietly (record v { position = Leaving }))
+  poll_at Waiting run next = waits_at run v.target
   poll_at _ run next = quietly v
 
   abbrev pub polled : Outcome
@@ -226,6 +256,36 @@ module _ (z : Ground) (c : ℕ) (v : View) (p : Place) (a : Action) (f : Found) 
   clear_at at (Some t) = quietly (record v { taken = Some (record t { cleared = t.cleared + 1 }) })
   clear_at at None = quietly v
 
+  -- the epoch wanted was raised, and the mutator waits for it; or it was loaded
+  abbrev pub collects : Collecting → Outcome
+  collects part = quietly (record v { collecting = part })
+
+  abbrev pub wanted_at : Position → Outcome
+  wanted_at (Calling call) = quietly (record v { position = Waiting; target = Some (epoch_in v + 1) })
+  wanted_at _ = collects (record v.collecting { wanted = f.word })
+
+  -- a phase was stored: with a stop the counting of mutators begins anew
+  abbrev pub counted_from : Code → List Bool → List Bool
+  counted_from code counted = cond (is_stop code) (replicate z.sizes.threads false) counted
+
+  abbrev pub phase_stored : Outcome
+  phase_stored = collects (record v.collecting {
+    stored = word_stored a;
+    counted = counted_from (phase_of (word_stored a)).code v.collecting.counted;
+  })
+
+  -- a mutator's state was loaded: it is counted where it is not in, and has ended where it says so
+  abbrev pub state_loaded : Outcome
+  state_loaded = collects (record v.collecting {
+    counted = slice_set v.collecting.counted (state_in p) (cond (f.word == 1) false true);
+    ended = slice_set v.collecting.ended (state_in p) (f.word == 2);
+  })
+
+  -- the marking was begun, or the count of its open work was loaded: at 0 it is over
+  abbrev pub count_at : Action → Outcome
+  count_at (Stores n) = collects (record v.collecting { over = false })
+  count_at _ = collects (record v.collecting { over = cond (f.word == 0) true v.collecting.over })
+
   abbrev pub outcome : Kind → Outcome
   outcome K1 = polled
   outcome K2 = went
@@ -239,4 +299,8 @@ module _ (z : Ground) (c : ℕ) (v : View) (p : Place) (a : Action) (f : Found) 
   outcome K10 = claimed
   outcome K11 = home_at v.position
   outcome K12 = clear_at v.position v.taken
+  outcome K13 = wanted_at v.position
+  outcome K14 = phase_stored
+  outcome K15 = state_loaded
+  outcome K16 = count_at a
   outcome _ = quietly v

@@ -11,6 +11,12 @@ is_run codes.Weak = true
 is_run codes.Sweep = true
 is_run _ = false
 
+-- the phases in which mutators are stopped
+abbrev pub is_stop : Code → Bool
+is_stop codes.StopA = true
+is_stop codes.StopB = true
+is_stop _ = false
+
 abbrev pauses_at : ℕ → Code → ℕ
 pauses_at e codes.StopA = e - 1
 pauses_at e codes.Mark = e - 1

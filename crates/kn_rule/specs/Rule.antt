@@ -20,7 +20,7 @@ use Rattle.kn_rule.specs.Steps.{Step, Found, callers}
 use Rattle.kn_rule.specs.Moves.{Finds}
 use Rattle.kn_rule.specs.HistoryClauses.{Told, Formed, Timed}
 use Rattle.kn_rule.specs.ObjectClauses.{Headed, ReadRight, Fielded, Cleared, Localed, Globaled, Named, Apart}
-use Rattle.kn_rule.specs.CallerClauses.{Stated, AtEnd, Polled, Owners}
+use Rattle.kn_rule.specs.CallerClauses.{Stated, AtEnd, Polled, Owners, Stopped, Wanted}
 use Rattle.kn_rule.specs.FrameClauses.{Framed, IsFilled, Housed, Handed, Classed, Placed, TakenIn}
 
 -- the clauses that speak of words, pages and objects, and of where callers stand, part by part
@@ -40,6 +40,8 @@ pub record Standing (z : Ground) (paused done born : ℕ) (shape : ℕ → Shape
   pub at_end : AtEnd z position (λ c. (rest c).collecting.ended)
   pub polling : Polled z paused phase want position polled target log
   pub owners : Owners z phase position own
+  pub stopped : Stopped z phase position (λ c. (rest c).collecting.counted)
+  pub wanted : Wanted z phase want target log (rest z.sizes.threads).collecting.wanted
   pub framed : Framed (callers z.sizes) (frame_count z.sizes) frame_word own
   pub housed : Housed z.sizes (IsFilled z.sizes born shape side) frame_word page
   pub handed : Handed z.sizes (callers z.sizes) (IsFilled z.sizes born shape side) own taken (λ c. (rest c).sweep)

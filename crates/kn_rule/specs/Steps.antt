@@ -2,7 +2,7 @@
 use Rattle.std.specs.Prelude.{ℕ, ◌+◌, ◌-◌, ◌==◌, cond, List, [], ◌∷◌, ◌++◌, Option, None, nat_le}
 use Rattle.kn_base.specs.declared.heap.Sizes.{Sizes}
 use Rattle.kn_base.specs.declared.places.Place.{Place}
-use Rattle.kn_base.specs.declared.places.Place.TheVariants.{Local, Frame, Side, Body}
+use Rattle.kn_base.specs.declared.places.Place.TheVariants.{State, Local, Frame, Side, Body}
 use Rattle.kn_base.specs.Pages.{FrameView}
 use Rattle.kn_graph.specs.declared.calls.Call.{Call}
 use Rattle.kn_graph.specs.declared.calls.Reply.{Reply}
@@ -70,6 +70,10 @@ address_in _ = 0
 abbrev pub local_in : Place → ℕ
 local_in (Local i r) = r
 local_in _ = 0
+
+abbrev pub state_in : Place → ℕ
+state_in (State i) = i
+state_in _ = 0
 
 -- the mutators, the collector and the finalizer
 abbrev pub callers : Sizes → ℕ

@@ -15,12 +15,14 @@ mod places;
 mod positions;
 mod requests;
 mod steps;
+mod words;
 
 pub use parts::{Child, Finalizing, Marking, Referring, Scan, Taken};
 pub use places::{place_index, table_length};
 pub use positions::Position;
-pub use requests::{area_of, class_of_words, is_past_frames, is_usable, words_asked};
+pub use requests::{area_of, class_of_words, is_past_frames, words_asked};
 pub use steps::{Action, Kind};
+pub use words::{class_of, is_usable};
 
 #[cfg(test)]
 mod tests;

@@ -2,10 +2,9 @@ ghost use Rattle.std.specs.Prelude.{◌≡◌, ℕ, ◌≤◌};
 ghost use Rattle.kn_base.specs.Sizes.{IsGood};
 ghost use Rattle.kn_graph.specs.Arguments.{IsInRange};
 ghost use Rattle.kn_graph.specs.Ground.{IsGoodGround};
-ghost use Rattle.kn_rule.specs.Decoding.{PacksFrame};
 ghost use Rattle.kn_rule.specs.Requests.{area_count, area_from, class_for, is_too_long};
 
-use kn_base::{FrameKind, FrameWord, MOST_CELL, NEXT_FIT_CLASS, SINGLE_CLASS, Sizes};
+use kn_base::{MOST_CELL, NEXT_FIT_CLASS, SINGLE_CLASS, Sizes};
 use kn_graph::Call;
 use kn_layout::{Layout, cell_words};
 
@@ -68,25 +67,4 @@ pub fn is_past_frames(sizes: &Sizes, class: u16, words: u32) -> bool
         sizes.extra_words
     };
     longest < words || area_of(sizes, class).1 == 0
-}
-
-/// Whether a search for a class may claim a frame with this word.
-pub fn is_usable(class: u16, word: u64) -> bool
-    requires { PacksFrame word }
-    ensures { result ≡ Rattle.kn_rule.specs.Requests.is_usable class word }
-{
-    match FrameWord::unpack(word) {
-        Some(frame) => is_usable_as(class, frame),
-        None => false,
-    }
-}
-
-fn is_usable_as(class: u16, frame: FrameWord) -> bool
-    ensures { result ≡ Rattle.kn_rule.specs.Requests.is_usable_as class frame frame.kind }
-{
-    match frame.kind {
-        FrameKind::Vacant | FrameKind::Empty | FrameKind::Unswept => true,
-        FrameKind::Ready => frame.class == class,
-        FrameKind::Used | FrameKind::Owned => false,
-    }
 }

@@ -35,9 +35,7 @@ impl Schedule {
     /// A schedule of so many threads, before its first turn. `named` are the threads that the order
     /// words name.
     pub fn open(named: Vec<u8>, threads: u8) -> Schedule
-        requires named { All (λ thread. thread < threads) named.items }
-        requires some { 0 < threads }
-        requires few { threads ≤ 16 }
+        requires { All (λ thread. thread < threads) named.items }
         ensures count { result.count ≡ threads }
         ensures left { result.left ≡ record { named = named.items; next = 0 } }
     {

@@ -1,10 +1,11 @@
 -- A view and a finder go on knowing the same where both see one word more.
-use Rattle.std.proofs.Common.{◌≡◌, ◌≢◌, ℕ, zero, suc, ◌+◌, ◌<◌, Bool, List, [], ◌∷◌, ◌++◌, length, Option, Some, slice_get}
+use Rattle.std.proofs.Common.{◌≡◌, ◌≢◌, ℕ, zero, suc, ◌+◌, ◌<◌, Bool, List, [], ◌∷◌, ◌++◌, length}
+use Rattle.std.proofs.Common.{Option, Some, None, slice_get}
 use Rattle.std.proofs.Common.{slice_set, refl, sym, ap, ◌∙◌, arith, length-set}
 use Rattle.std.proofs.lemmas.Option.{slice_get_past, slice_get_within}
 use Rattle.kn_base.proofs.Updates.{get_set_here, get_set_else, split_at}
 use Rattle.kn_store.specs.declared.finder.Seen.{Seen}
-use Rattle.kn_store.specs.Search.{Search, count_of, first_of, is_early, saw_again, saw_next}
+use Rattle.kn_store.specs.Search.{IsChoice, Search, count_of, first_of, is_early, saw_again, saw_next}
 use Rattle.kn_store.specs.Agree.{KnowsSame, is_refused, refused_or, word_of}
 
 one_more : {A : Type 0} (l : List A) (x : A) → slice_get (l ++ x ∷ []) (length l) ≡ Some x
@@ -20,6 +21,22 @@ others_stay (y ∷ l) x (suc i) ne = others_stay l x i (λ e. ne (ap suc e))
 length_more : {A : Type 0} (l : List A) (x : A) → length (l ++ x ∷ []) ≡ length l + 1
 length_more [] x = refl
 length_more (y ∷ l) x = let h = length_more l x in omega arith
+
+-- the best of some frames is the best of them beside one more
+pub choice_beside : (class : ℕ) (l : List Seen) (x : Seen) (best : Option ℕ) → IsChoice class l (length l) best →
+    IsChoice class (l ++ x ∷ []) (length l) best
+choice_beside class l x None none = λ j t near at. none j t near (sym (others_stay l x j (λ e. let y = e in absurd (omega arith))) ∙ at)
+choice_beside class l x (Some i) h =
+    let b = h.1 in
+    let n = b.near in (
+      h.0,
+      record {
+        near = b.near;
+        at = others_stay l x i (λ e. let y = e in absurd (omega arith)) ∙ b.at;
+        fit = b.fit;
+        best = λ j t near at. b.best j t near (sym (others_stay l x j (λ e. let y = e in absurd (omega arith))) ∙ at);
+      },
+    )
 
 module _ (m : Search) (seen : List (Option ℕ)) (refused : List Bool) (same : KnowsSame m seen refused) (w : ℕ) where
   -- the word of frame number i was seen in this view, and what the finder has of the others stays

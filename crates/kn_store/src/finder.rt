@@ -1,6 +1,7 @@
 //! The search of one caller.
 ghost use Rattle.std.specs.Prelude.{◌≡◌, ℕ, ◌+◌, ◌<◌, ◌≤◌, ◌⊎◌, ◌↔◌, IfOk, IsTrue, Some, None, Bool, List, Option, length};
 ghost use Rattle.std.specs.Prelude.{slice_set, true};
+ghost use Rattle.std.specs.List.{AllByRecursion};
 ghost use Rattle.kn_base.specs.Sizes.{IsGood};
 ghost use Rattle.kn_base.specs.Classes.{IsClassNumber};
 ghost use Rattle.kn_base.specs.Words.{IsFrameWord, packed_frame};
@@ -37,6 +38,8 @@ pub struct Finder {
     count: u32,
     seen: Vec<Seen>,
     early: Option<u16>,
+    /// The best of the frames seen, the first one of its kind.
+    best: Option<usize>,
 }
 
 impl Model for Finder {
@@ -46,7 +49,7 @@ impl Model for Finder {
     ghost use Rattle.kn_base.specs.Sizes.{IsGood, frame_count};
     ghost use Rattle.kn_rule.specs.Decoding.{PacksFrame};
     ghost use Rattle.kn_rule.specs.Requests.{area_count, area_from};
-    ghost use Rattle.kn_store.specs.Search.{Search};
+    ghost use Rattle.kn_store.specs.Search.{IsChoice, Search};
 
     ghost Value = { Search };
 
@@ -54,7 +57,7 @@ impl Model for Finder {
 
     ghost invariant = { λ a. IsGood a.sizes × (a.from ≡ area_from a.sizes a.class) × (a.count ≡ area_count a.sizes a.class)
         × (length a.seen.items ≤ a.count) × (frame_count a.sizes ≤ vec_capacity a.seen) × IsClassNumber a.class × (a.by ≤ 17)
-        × AllByRecursion (λ s. PacksFrame s.word) a.seen.items };
+        × AllByRecursion (λ s. PacksFrame s.word) a.seen.items × IsChoice a.class a.seen.items (length a.seen.items) a.best };
 }
 
 impl Finder {
@@ -74,6 +77,7 @@ impl Finder {
             count,
             seen: Vec::with_capacity(alloc, sizes.frames() as usize)?,
             early: None,
+            best: None,
         })
     }
 
@@ -92,6 +96,7 @@ impl Finder {
         self.count = count;
         self.seen.clear();
         self.early = None;
+        self.best = None;
     }
 
     /// A frame of the area was refused: its page was put home for the request of this search. It is
@@ -117,10 +122,13 @@ impl Finder {
         match self.seen.get(number) {
             Some(seen) => {
                 let word = seen.word;
-                self.seen[number] = Seen {
-                    word,
-                    refused: true,
-                };
+                self.replaces(
+                    number,
+                    Seen {
+                        word,
+                        refused: true,
+                    },
+                );
             }
             None => self.early = Some(frame.0),
         }
@@ -141,7 +149,7 @@ impl Finder {
         if self.seen.len() < self.count as usize {
             self.looks(steps)
         } else {
-            match self.choice() {
+            match self.chosen() {
                 Some(number) => self.claims(steps, number, self.best_seen(number)),
                 None => unreachable!(),
             }
@@ -189,9 +197,11 @@ impl Finder {
             Some(early) => early == frame,
             None => false,
         };
+        let number = self.seen.len();
         if self.seen.push(Seen { word, refused }).is_err() {
             unreachable!();
         }
+        self.best = better(self.class, self.seen.as_slice(), self.best, number);
     }
 
     fn claims<P: Home, T: Steps<P>>(&mut self, steps: &mut T, number: usize, seen: Seen) -> Look
@@ -232,7 +242,17 @@ impl Finder {
         ensures { self.new ≡ saw_again self.old number seen word }
     {
         let refused = seen.refused;
-        self.seen[number] = Seen { word, refused };
+        self.replaces(number, Seen { word, refused });
+    }
+
+    // What was seen of a frame is replaced.
+    fn replaces(&mut self, number: usize, seen: Seen)
+        requires packs { PacksFrame seen.word }
+        requires near { number < length self.old.seen }
+        ensures { self.new ≡ record self.old { seen = slice_set self.old.seen number seen } }
+    {
+        self.seen[number] = seen;
+        self.best = choice(self.class, self.seen.as_slice());
     }
 
     // The word with which a frame is claimed, for its word before.
@@ -283,45 +303,54 @@ impl Finder {
     fn is_over(&self) -> bool
         ensures { IsTrue result ↔ IsOver self.now }
     {
-        self.seen.len() == self.count as usize && self.choice().is_none()
+        self.seen.len() == self.count as usize && self.chosen().is_none()
     }
 
     // The best of the frames seen, the first one of its kind.
-    fn choice(&self) -> Option<usize>
+    fn chosen(&self) -> Option<usize>
         ensures { IsChoice self.now.class self.now.seen (length self.now.seen) result }
     {
-        let mut best: Option<usize> = None;
-        for number in 0..self.seen.len() {
-            best = self.better(best, number);
-        }
-        best
+        self.best
     }
+}
 
-    // The best of the frames up to this one, for the best of those before it.
-    fn better(&self, best: Option<usize>, number: usize) -> Option<usize>
-        requires near { number < length self.now.seen }
-        requires best { IsChoice self.now.class self.now.seen number best }
-        ensures { IsChoice self.now.class self.now.seen (number + 1) result }
-    {
-        let seen = self.seen[number];
-        if !is_open(self.class, seen) {
-            return best;
-        }
-        match best {
-            None => Some(number),
-            Some(other) => {
-                if rank_told(seen.word) < rank_told(self.seen[other].word) {
-                    Some(number)
-                } else {
-                    Some(other)
-                }
+// The best of some frames, the first one of its kind.
+fn choice(class: u16, seen: &[Seen]) -> Option<usize>
+    requires { AllByRecursion (λ (s : Seen). PacksFrame s.word) seen.now }
+    ensures { IsChoice class seen.now (length seen.now) result }
+{
+    let mut best: Option<usize> = None;
+    for number in 0..seen.len() {
+        best = better(class, seen, best, number);
+    }
+    best
+}
+
+// The best of the frames up to this one, for the best of those before it.
+#[inline(always)]
+fn better(class: u16, seen: &[Seen], best: Option<usize>, number: usize) -> Option<usize>
+    requires packs { AllByRecursion (λ (s : Seen). PacksFrame s.word) seen.now }
+    requires near { number < length seen.now }
+    requires best { IsChoice class seen.now number best }
+    ensures { IsChoice class seen.now (number + 1) result }
+{
+    let this = seen[number];
+    if !is_open(class, this) {
+        return best;
+    }
+    match best {
+        None => Some(number),
+        Some(other) => {
+            if rank_told(this.word) < rank_told(seen[other].word) {
+                Some(number)
+            } else {
+                Some(other)
             }
         }
     }
 }
 
 fn is_open(class: u16, seen: Seen) -> bool
-    requires { PacksFrame seen.word }
     ensures { IsTrue result ↔ IsOpen class seen }
 {
     is_usable(class, seen.word) && !seen.refused

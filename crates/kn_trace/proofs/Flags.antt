@@ -7,11 +7,7 @@ use Rattle.kn_mutator.specs.Agree.{HasEnded}
 use Rattle.kn_mutator.specs.Mutating.{Mutating}
 use Rattle.kn_trace.specs.Traces.{ends, is_end}
 
--- a task that is not the last one has not ended
-pub goes : (task : Task) → is_end task ≡ false → HasEnded task → ⊥
-goes Ended e h = cc
-goes _ e h = h
-
+-- the flag of a task tells whether it is the last one
 pub has_ended : (task : Task) → is_end task ≡ true → HasEnded task
 has_ended Ended e = tt
 has_ended _ e = cc

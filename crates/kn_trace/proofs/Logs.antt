@@ -18,11 +18,11 @@ use Rattle.kn_rule.specs.Steps.{callers}
 use Rattle.kn_board.specs.World.{World, Sound, view_at}
 use Rattle.kn_mutator.specs.declared.task.Task.{Task}
 use Rattle.kn_mutator.specs.declared.task.Task.TheVariants.{Out, GoesIn, Enters, Polls, Calls, Births, Writes, SendsSingle, Leaves, Ends, Ended}
-use Rattle.kn_mutator.specs.Agree.{Answers, AtTask, HasEnded}
+use Rattle.kn_mutator.specs.Agree.{HasAnswered, AtTask, HasEnded}
 use Rattle.kn_mutator.specs.Mutating.{Mutating}
 
 -- at every task the log answers some of the calls
-pub answered : (task : Task) (m : Mutating) (v : View) → AtTask task m v → (n : ℕ) × Answers m n
+pub answered : (task : Task) (m : Mutating) (v : View) → AtTask task m v → (n : ℕ) × HasAnswered m.log m.calls n
 answered Out m v at = (m.begun, at.0.answers)
 answered GoesIn m v at = (m.begun, at.0.answers)
 answered Enters m v at = (m.begun, at.0.answers)

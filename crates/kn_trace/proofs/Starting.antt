@@ -1,11 +1,11 @@
 -- A run, from its start to its end.
-use Rattle.std.proofs.Common.{◌≡◌, ℕ, ◌+◌, ◌<◌, ◌⊎◌, inl, inr, Bool, true, false, List, length, Some, slice_get}
+use Rattle.std.proofs.Common.{◌≡◌, ℕ, ◌<◌, ◌⊎◌, inl, inr, Bool, true, false, List, length, Some, slice_get}
 use Rattle.std.proofs.Common.{sym, ap, ◌∙◌, subst, arith}
 use Rattle.std.specs.Prelude.{MatchBool, filter_map}
 use Rattle.std.proofs.lemmas.Option.{slice_get_within, same_Some}
 use Rattle.kn_base.specs.Pages.{FrameView}
 use Rattle.kn_layout.specs.declared.layouts.Layout.{Layout}
-use Rattle.kn_graph.specs.Ground.{Ground, IsGoodGround}
+use Rattle.kn_graph.specs.Ground.{Ground}
 use Rattle.kn_rule.specs.Rule.{fresh}
 use Rattle.kn_steps.specs.Made.{Stand}
 use Rattle.kn_view.specs.Parts as parts
@@ -21,31 +21,30 @@ use Rattle.kn_trace.specs.Runs.{HaveEnded, IsGoingOn, IsOverAs, IsRunOf, IsStart
 use Rattle.kn_trace.specs.Between.{AgreesAt, AreNew, Holds, Running, TakesAll, trace_of}
 
 -- the board was opened over what the graph of the script lives on
-pub over_script : (s now : Scripted) (layouts : List Layout) → layouts ≡ s.layouts → s ≡ now → parts.ground_of s.sizes layouts ≡ ground_of now
-over_script s now layouts e is = ap (parts.ground_of s.sizes) e ∙ ap ground_of is
+pub over_script : {s now : Scripted} (layouts : List Layout) → layouts ≡ s.layouts → s ≡ now → parts.ground_of s.sizes layouts ≡ ground_of now
+over_script {s} {now} layouts e is = ap (parts.ground_of s.sizes) e ∙ ap ground_of is
 
 module _ (s : Scripted) (good : IsGoodScript s) (pages : List FrameView) (w : World) (board : w ≡ opened (ground_of s) pages) (r : Running)
     (new : AreNew s (length s.threads) r.mutators) where
   pub starts : AreWhole s.sizes pages → r.left ≡ record { named = filter_map named s.order; next = 0 } → IsStart s (trace_of w r)
   starts whole left = record { pages = pages; whole = whole; board = board; count = new.count; mutators = new.each; left = left }
 
-  module _ (opening : OpenedIsSwept) (ground_good : IsGoodGround (ground_of s)) where
+  module _ (opening : OpenedIsSwept) where
     heap_is : w.heap ≡ ground_of s
     heap_is = ap (λ (u : World). u.heap) board
 
     threads_are : w.heap.sizes.threads ≡ s.sizes.threads
     threads_are = ap (λ (z : Ground). z.sizes.threads) heap_is
 
-    view_is : (c : ℕ) → c < s.sizes.threads + 2 → view_at w c ≡ fresh (ground_of s)
-    view_is c near = ap (λ (u : World). view_at u c) board ∙ (opening (ground_of s) pages ground_good).1 c near
+    view_is : (c : ℕ) → view_at w c ≡ fresh (ground_of s)
+    view_is c = ap (λ (u : World). view_at u c) board ∙ (opening (ground_of s) pages).1 c
 
     agrees : (c : ℕ) (m : Mutating) → slice_get r.mutators c ≡ Some m → AgreesAt w c m
     agrees c m is =
         let within = slice_get_within r.mutators c m is in
         let count = new.count in
-        let each = good.each_thread in
         let near : c < length s.threads = omega arith in
-        let view = view_is c (omega arith) in
+        let view = view_is c in
         let heap = heap_is in
         let stand : stand_at c w ≡ record { heap = ground_of s; by = c; view = fresh (ground_of s) } =
         λ i. record { heap = heap i; by = c; view = view i } in
@@ -57,8 +56,8 @@ module _ (s : Scripted) (good : IsGoodScript s) (pages : List FrameView) (w : Wo
     holds_first = record {
       count = new.count ∙ (good.each_thread ∙ sym threads_are);
       agree = agrees;
-      swept = subst NoneUnswept (sym board) (opening (ground_of s) pages ground_good).0;
-      at_rest = λ c from to. let e = threads_are in view_is c (omega arith) ∙ ap fresh (sym heap_is);
+      swept = subst NoneUnswept (sym board) (opening (ground_of s) pages).0;
+      at_rest = λ c from to. view_is c ∙ ap fresh (sym heap_is);
     }
 
 -- all cannot have ended where one goes on

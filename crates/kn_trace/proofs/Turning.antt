@@ -13,7 +13,7 @@ use Rattle.kn_alloc.specs.Agree.{IsSweeping}
 use Rattle.kn_alloc.specs.Laws.{StaysAsPagesMove}
 use Rattle.kn_mutator.specs.Agree.{Agrees}
 use Rattle.kn_mutator.specs.Mutating.{Mutating}
-use Rattle.kn_mutator.specs.Turns.{Turned}
+use Rattle.kn_mutator.specs.Turns.{Turned, lets_all}
 use Rattle.kn_trace.specs.Traces.{IsTurn, Runs, Trace, ended, ends, is_end}
 use Rattle.kn_trace.specs.Between.{AgreesAt, Holds, MakesTurn, Stays, Takes, TakesAll, trace_of}
 use Rattle.kn_trace.proofs.Flags.{set_ends}
@@ -24,26 +24,29 @@ by_stays : (s s' : Seat) → OneTurn seat_stand seat_here SeatDid SeatMoved s s'
 by_stays s s' (inl one) = one.kept.0
 by_stays s s' (inr one) = one.kept.0
 
+seat_is : (w : World) (thread : ℕ) (s : Seat) → s.by ≡ thread → s.board ≡ w → s ≡ seat thread w
+seat_is w thread s by board = λ i. record { by = by i; board = board i }
+
+-- a mutator that agrees with what its thread knows agrees with its seat
+pub seat_agrees : (w : World) (thread : ℕ) (m : Mutating) (s : Seat) → s.by ≡ thread → s.board ≡ w → AgreesAt w thread m →
+    Agrees m (seat_stand s) (seat_here s)
+seat_agrees w thread m s by board agrees =
+    subst (λ (a : Seat). Agrees m (seat_stand a) (seat_here a)) (sym (seat_is w thread s by board)) agrees
+
 module _ (w w' : World) (thread : ℕ) (m m' : Mutating) (s s' : Seat) (reply : Turn) (by : s.by ≡ thread) (board : s.board ≡ w)
     (into : w' ≡ s'.board) where
-  before_is : s ≡ seat thread w
-  before_is = λ i. record { by = by i; board = board i }
-
-  after_is : OneTurn seat_stand seat_here SeatDid SeatMoved s s' → s' ≡ seat thread w'
-  after_is one = let e : s'.by ≡ thread = by_stays s s' one ∙ by in λ i. record { by = e i; board = sym into i }
-
-  pub made_turn : Sound w → Turned seat_stand seat_here SeatDid SeatMoved (Unit {0}) m s s' m' reply →
+  pub made_turn : Sound w → Turned seat_stand seat_here SeatDid SeatMoved lets_all m s s' m' reply →
       OneTurn seat_stand seat_here SeatDid SeatMoved s s' →
       ((¬ IsSweeping m'.alloc.stage) → Agrees m' (seat_stand s') (seat_here s')) →
       (IsSweeping m'.alloc.stage → MetUnswept seat_stand seat_here SeatDid SeatMoved s s') → MakesTurn w thread m w' m'
   made_turn sound turned one agrees unswept =
-      let e = before_is in
-      let f = after_is one in
+      let e = seat_is w thread s by board in
+      let f = seat_is w' thread s' (by_stays s s' one ∙ by) (sym into) in
       record {
         sound = sound;
         reply = reply;
-        turned = subst (λ (a : Seat). Turned seat_stand seat_here SeatDid SeatMoved (Unit {0}) m a (seat thread w') m' reply) e
-            (subst (λ (b : Seat). Turned seat_stand seat_here SeatDid SeatMoved (Unit {0}) m s b m' reply) f turned);
+        turned = subst (λ (a : Seat). Turned seat_stand seat_here SeatDid SeatMoved lets_all m a (seat thread w') m' reply) e
+            (subst (λ (b : Seat). Turned seat_stand seat_here SeatDid SeatMoved lets_all m s b m' reply) f turned);
         one = subst (λ (a : Seat). OneTurn seat_stand seat_here SeatDid SeatMoved a (seat thread w')) e
             (subst (λ (b : Seat). OneTurn seat_stand seat_here SeatDid SeatMoved s b) f one);
         agrees = λ not. subst (λ (b : Seat). Agrees m' (seat_stand b) (seat_here b)) f (agrees not);

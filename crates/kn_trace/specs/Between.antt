@@ -13,7 +13,7 @@ use Rattle.kn_others.specs.Laws.{NoneUnswept, Turn as TurnOf}
 use Rattle.kn_alloc.specs.Agree.{IsSweeping}
 use Rattle.kn_mutator.specs.Agree.{Agrees}
 use Rattle.kn_mutator.specs.Mutating.{Mutating, new_mutating}
-use Rattle.kn_mutator.specs.Turns.{Turned}
+use Rattle.kn_mutator.specs.Turns.{Turned, lets_all}
 use Rattle.kn_trace.specs.Traces.{IsTurn, Runs, Trace}
 use Rattle.kn_trace.specs.Runs.{HaveEnded, calls_at}
 
@@ -61,7 +61,7 @@ pub record AreNew (script : Scripted) (n : ℕ) (mutators : List Mutating) : Typ
 pub record MakesTurn (w : World) (thread : ℕ) (m : Mutating) (w' : World) (m' : Mutating) : Type 0 where
   pub sound : Sound w
   pub reply : Turn
-  pub turned : Turned seat_stand seat_here SeatDid SeatMoved (Unit {0}) m (seat thread w) (seat thread w') m' reply
+  pub turned : Turned seat_stand seat_here SeatDid SeatMoved lets_all m (seat thread w) (seat thread w') m' reply
   pub one : TurnOf thread w w'
   pub agrees : (¬ IsSweeping m'.alloc.stage) → AgreesAt w' thread m'
   pub unswept : IsSweeping m'.alloc.stage → MetUnswept seat_stand seat_here SeatDid SeatMoved (seat thread w) (seat thread w')

@@ -6,7 +6,7 @@ use Rattle.kn_board.specs.World.{World, seat, seat_here, seat_stand, SeatDid, Se
 use Rattle.kn_mutator.specs.declared.task.Task.{Task}
 use Rattle.kn_mutator.specs.declared.task.Task.TheVariants.{Ended}
 use Rattle.kn_mutator.specs.Mutating.{Mutating}
-use Rattle.kn_mutator.specs.Turns.{Turned}
+use Rattle.kn_mutator.specs.Turns.{Turned, lets_all}
 
 -- the board, the mutators by thread, and what is left of the order of turns
 pub record Trace : Type 0 where
@@ -34,7 +34,7 @@ pub record IsTurn (t t' : Trace) : Type 0 where
   pub after : Mutating
   pub reply : Turn
   pub at : slice_get t.mutators thread ≡ Some before
-  pub turned : Turned seat_stand seat_here SeatDid SeatMoved (Unit {0}) before (seat thread t.board) (seat thread t'.board) after reply
+  pub turned : Turned seat_stand seat_here SeatDid SeatMoved lets_all before (seat thread t.board) (seat thread t'.board) after reply
   pub mutators : t'.mutators ≡ slice_set t.mutators thread after
 
 -- so many turns lead from one to the other

@@ -11,6 +11,3 @@ mod runs;
 mod threads;
 
 pub use runs::{Traced, trace};
-
-#[cfg(test)]
-mod tests;

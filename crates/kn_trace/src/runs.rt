@@ -4,7 +4,8 @@ ghost use Rattle.kn_graph.specs.Histories.{IsLegal};
 ghost use Rattle.kn_graph.specs.Logs.{LogsFit};
 ghost use Rattle.kn_script.specs.Good.{IsGoodScript};
 ghost use Rattle.kn_script.specs.Scripts.{ground_of};
-ghost use Rattle.kn_trace.specs.Runs.{AreBuilt, AreComplete, ArePartial, IsRunOf};
+ghost use Rattle.kn_trace.specs.Between.{Holds, trace_of};
+ghost use Rattle.kn_trace.specs.Runs.{AreBuilt, AreComplete, ArePartial, IsRunOf, IsStart};
 
 use crate::threads::Threads;
 use kn_board::Board;
@@ -23,6 +24,27 @@ pub struct Traced {
     pub is_spent: bool,
 }
 
+/// The board and the threads of a script, before the first turn.
+#[derive(Drop)]
+struct Opened {
+    board: Board<Page>,
+    threads: Threads,
+}
+
+fn open_run(alloc: Global, script: &Script) -> Result<Opened, AllocError>
+    requires good { IsGoodScript script.now }
+    requires built { AreBuilt script.now.threads }
+    ensures start { IfOk result (λ opened. IsStart script.now (trace_of opened.board opened.threads)) }
+    ensures holds { IfOk result (λ opened. Holds (trace_of opened.board opened.threads)) }
+{
+    state_laws();
+    turn_laws();
+    let pages = open_pages(alloc, &script.sizes)?;
+    let board = Board::open(alloc, &script.sizes, &script.layouts, pages)?;
+    let threads = Threads::open(alloc, script)?;
+    Ok(Opened { board, threads })
+}
+
 /// Runs a script on a board, until each thread has ended or the turns are spent. An error is want
 /// of memory.
 pub fn trace(alloc: Global, script: &Script) -> Result<Traced, AllocError>
@@ -35,12 +57,9 @@ pub fn trace(alloc: Global, script: &Script) -> Result<Traced, AllocError>
     ensures partial { IfOk result (λ traced. ArePartial script.now traced.board.history) }
     ensures few { IfOk result (λ traced. sum_by (λ log. length log) traced.logs.items < 2 ^ 32) }
 {
-    state_laws();
-    turn_laws();
-    let pages = open_pages(alloc, &script.sizes)?;
-    let board = Board::open(alloc, &script.sizes, &script.layouts, pages)?;
-    let mut threads = Threads::open(alloc, script)?;
-    let board = threads.take_turns(board, script.turns);
+    let opened = open_run(alloc, script)?;
+    let mut threads = opened.threads;
+    let board = threads.take_turns(opened.board, script.turns);
     let is_spent = threads.is_going_on();
     let logs = threads.into_logs(alloc)?;
     board.rule_holds();

@@ -1,10 +1,10 @@
 -- What words tell.
-use Rattle.std.proofs.Common.{◌≡◌, ℕ, zero, suc, ◌<◌, ◌≤◌, ◌%◌, ◌/◌, ◌^◌, ◌≢◌, false, cond, eqb, ne_eqb, nat_lt}
+use Rattle.std.proofs.Common.{◌≡◌, ℕ, zero, suc, ◌<◌, ◌≤◌, ◌%◌, ◌/◌, ◌^◌, ◌-◌, ◌≢◌, nat_lt, nat_eq}
 use Rattle.std.proofs.Common.{refl, sym, ap, arith}
-use Rattle.kn_base.specs.declared.kinds.FrameKind.TheVariants as kinds
-use Rattle.kn_rule.specs.Decoding.{phase_of, frame_of, header_of, code_of, frame_kind_of}
-use Rattle.kn_rule.specs.Phases.{is_run, pauses}
-use Rattle.kn_rule.specs.Requests.{is_usable, is_usable_as}
+use Rattle.kn_base.specs.declared.kinds.Code.{Code}
+use Rattle.kn_base.specs.declared.kinds.Code.TheVariants as codes
+use Rattle.kn_rule.specs.Decoding.{phase_of, header_of, code_of}
+use Rattle.kn_rule.specs.Phases.{is_run, is_stop, last_done, pauses}
 
 pub run_code : (w n : ℕ) → w % 8 ≡ n → is_run (code_of n) ≡ is_run (phase_of w).code
 unfolding phase_of
@@ -36,9 +36,44 @@ pauses_others e (suc (suc (suc (suc (suc (suc zero)))))) l a b = refl
 pauses_others e (suc (suc (suc (suc (suc (suc (suc zero))))))) l a b = refl
 pauses_others e (suc (suc (suc (suc (suc (suc (suc (suc n)))))))) l a b = absurd (omega arith)
 
-pub class_told : (w : ℕ) → w % 2 ^ 56 / 2 ^ 40 ≡ (frame_of w).class
-unfolding frame_of
-class_told w = refl
+pub done_code : (w n : ℕ) → w % 8 ≡ n → last_done (record { epoch = w / 8; code = code_of n }) ≡ last_done (phase_of w)
+unfolding phase_of
+done_code w n e = ap (λ m. last_done (record { epoch = w / 8; code = code_of m })) (sym e)
+
+pub done_others : (e n : ℕ) → n < 8 → n ≢ 0 → e - 1 ≡ last_done (record { epoch = e; code = code_of n })
+done_others e zero l a = absurd (a refl)
+done_others e (suc zero) l a = refl
+done_others e (suc (suc zero)) l a = refl
+done_others e (suc (suc (suc zero))) l a = refl
+done_others e (suc (suc (suc (suc zero)))) l a = refl
+done_others e (suc (suc (suc (suc (suc zero))))) l a = refl
+done_others e (suc (suc (suc (suc (suc (suc zero)))))) l a = refl
+done_others e (suc (suc (suc (suc (suc (suc (suc zero))))))) l a = refl
+done_others e (suc (suc (suc (suc (suc (suc (suc (suc n)))))))) l a = absurd (omega arith)
+
+done_most : (e : ℕ) (c : Code) → last_done (record { epoch = e; code = c }) ≤ e
+done_most e codes.Idle = omega arith
+done_most e _ = omega arith
+
+-- the last epoch done is short
+pub done_small : (w : ℕ) → w < 2 ^ 35 → last_done (phase_of w) < 2 ^ 32
+unfolding phase_of
+done_small w l = let most = done_most (w / 8) (code_of (w % 8)) in omega (arith, l, most)
+
+pub stop_code : (w n : ℕ) → w % 8 ≡ n → is_stop (code_of n) ≡ is_stop (phase_of w).code
+unfolding phase_of
+stop_code w n e = ap (λ m. is_stop (code_of m)) (sym e)
+
+pub stop_others : (n : ℕ) → n < 8 → n ≢ 1 → nat_eq n 4 ≡ is_stop (code_of n)
+stop_others zero l a = refl
+stop_others (suc zero) l a = absurd (a refl)
+stop_others (suc (suc zero)) l a = refl
+stop_others (suc (suc (suc zero))) l a = refl
+stop_others (suc (suc (suc (suc zero)))) l a = refl
+stop_others (suc (suc (suc (suc (suc zero))))) l a = refl
+stop_others (suc (suc (suc (suc (suc (suc zero)))))) l a = refl
+stop_others (suc (suc (suc (suc (suc (suc (suc zero))))))) l a = refl
+stop_others (suc (suc (suc (suc (suc (suc (suc (suc n)))))))) l a = absurd (omega arith)
 
 pub layout_told : (w : ℕ) → w / 2 ^ 48 ≡ (header_of w).layout
 unfolding header_of
@@ -47,25 +82,3 @@ layout_told w = refl
 pub length_told : (w : ℕ) → w % 2 ^ 48 / 2 ^ 24 ≡ (header_of w).length
 unfolding header_of
 length_told w = refl
-
-pub usable_kind : (class w n : ℕ) → w / 2 ^ 56 ≡ n → is_usable_as class (frame_of w) (frame_kind_of n) ≡ is_usable class w
-unfolding frame_of
-usable_kind class w n e = ap (λ m. is_usable_as class (frame_of w) (frame_kind_of m)) (sym e)
-
-owned_kind : (n : ℕ) → 5 ≤ n → frame_kind_of n ≡ kinds.Owned
-owned_kind n l =
-    let e0 : eqb n 0 ≡ false = ne_eqb n 0 (λ e. let x = e in absurd (omega arith)) in
-    let e1 : eqb n 1 ≡ false = ne_eqb n 1 (λ e. let x = e in absurd (omega arith)) in
-    let e2 : eqb n 2 ≡ false = ne_eqb n 2 (λ e. let x = e in absurd (omega arith)) in
-    let e3 : eqb n 3 ≡ false = ne_eqb n 3 (λ e. let x = e in absurd (omega arith)) in
-    let e4 : eqb n 4 ≡ false = ne_eqb n 4 (λ e. let x = e in absurd (omega arith)) in
-    λ t. cond (e0 t) kinds.Vacant (cond (e1 t) kinds.Empty (cond (e2 t) kinds.Ready (cond (e3 t) kinds.Used (cond (e4 t) kinds.Unswept kinds.Owned))))
-
-pub usable_others : (class w n : ℕ) → n ≢ 0 → n ≢ 1 → n ≢ 2 → n ≢ 4 → false ≡ is_usable_as class (frame_of w) (frame_kind_of n)
-usable_others class w zero a b c d = absurd (a refl)
-usable_others class w (suc zero) a b c d = absurd (b refl)
-usable_others class w (suc (suc zero)) a b c d = absurd (c refl)
-usable_others class w (suc (suc (suc zero))) a b c d = refl
-usable_others class w (suc (suc (suc (suc zero)))) a b c d = absurd (d refl)
-usable_others class w (suc (suc (suc (suc (suc n))))) a b c d =
-    sym (ap (is_usable_as class (frame_of w)) (owned_kind (suc (suc (suc (suc (suc n))))) (omega arith)))

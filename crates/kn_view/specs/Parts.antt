@@ -1,5 +1,6 @@
 -- What is stored of one caller's view, and what a step makes of it.
-use Rattle.std.specs.Prelude.{◌≡◌, ℕ, ◌+◌, ◌<◌, ◌^◌, Bool, false, List, [], ◌∷◌, replicate, Option, Some, None, slice_get, slice_set}
+use Rattle.std.specs.Prelude.{◌≡◌, ℕ, ◌+◌, ◌<◌, ◌^◌, Bool, false, true, List, [], ◌∷◌, replicate, Option, Some, None}
+use Rattle.std.specs.Prelude.{slice_get, slice_set}
 use Rattle.kn_base.specs.declared.numbers.Span.{Span}
 use Rattle.kn_base.specs.declared.heap.Sizes.{Sizes}
 use Rattle.kn_layout.specs.declared.layouts.Layout.{Layout}
@@ -21,16 +22,23 @@ use Rattle.kn_rule.specs.Rule.{fresh}
 abbrev pub ground_of : Sizes → List Layout → Ground
 ground_of sizes layouts = record { sizes = sizes; layouts = layouts }
 
--- what a view has beside the frames that its caller owns, its log, and what no built step changes
+-- what a view has beside the frames that its caller owns, its log, and what no built step changes; of what the collector keeps,
+-- the phase word stored, the epoch wanted, the mutators counted and those ended, and whether the marking is over
 pub record Part : Type 0 where
   pub position : Position
   pub polled : ℕ
+  pub target : Option ℕ
   pub locals : List ℕ
   pub header : Option ℕ
   pub seen : List (Option ℕ)
   pub refused : List Bool
   pub taken : Option Taken
   pub sweep : Option Sweep
+  pub stored : ℕ
+  pub wanted : ℕ
+  pub counted : List Bool
+  pub ended : List Bool
+  pub over : Bool
   pub calls : ℕ
   pub births : ℕ
 
@@ -39,6 +47,7 @@ abbrev pub view_with : Ground → Part → List (Option Open) → List Entry →
 view_with z part owned log = record (fresh z) {
   position = part.position;
   polled = part.polled;
+  target = part.target;
   locals = part.locals;
   header = part.header;
   seen = part.seen;
@@ -46,6 +55,13 @@ view_with z part owned log = record (fresh z) {
   owned = owned;
   taken = part.taken;
   sweep = part.sweep;
+  collecting = record (fresh z).collecting {
+    stored = part.stored;
+    wanted = part.wanted;
+    counted = part.counted;
+    ended = part.ended;
+    over = part.over;
+  };
   log = log;
   calls = part.calls;
   births = part.births;
@@ -70,12 +86,18 @@ abbrev pub new_part : Ground → Part
 new_part z = record {
   position = Out;
   polled = 0;
+  target = None;
   locals = replicate 16 0;
   header = None;
   seen = replicate (frame_count z.sizes) None;
   refused = replicate (frame_count z.sizes) false;
   taken = None;
   sweep = None;
+  stored = 0;
+  wanted = 0;
+  counted = replicate z.sizes.threads false;
+  ended = replicate z.sizes.threads false;
+  over = true;
   calls = 0;
   births = 0;
 }

@@ -18,6 +18,7 @@ use std::marker::Model;
 pub struct Known {
     pub(crate) position: Position,
     pub(crate) polled: u64,
+    pub(crate) target: Option<u64>,
     pub(crate) locals: [u32; 16],
     pub(crate) header: Option<u64>,
     pub(crate) looks: Vec<Look>,
@@ -25,6 +26,11 @@ pub struct Known {
     pub(crate) sweep: Option<SweepPlace>,
     pub(crate) calls: u32,
     pub(crate) births: u32,
+    pub(crate) stored: u64,
+    pub(crate) wanted: u64,
+    pub(crate) counted: Vec<bool>,
+    pub(crate) ended: Vec<bool>,
+    pub(crate) over: bool,
 }
 
 impl Model for Known {
@@ -38,12 +44,18 @@ impl Model for Known {
     ghost view = { λ k. record {
       position = k.position;
       polled = k.polled;
+      target = k.target;
       locals = k.locals;
       header = k.header;
       seen = map (seen_in (k.calls + 1)) k.looks.items;
       refused = map (refused_in (k.calls + 1)) k.looks.items;
       taken = k.taken;
       sweep = option_map sweep_at k.sweep;
+      stored = k.stored;
+      wanted = k.wanted;
+      counted = k.counted.items;
+      ended = k.ended.items;
+      over = k.over;
       calls = k.calls;
       births = k.births;
     } };
@@ -65,6 +77,7 @@ impl Known {
         Ok(Known {
             position: Position::Out,
             polled: 0,
+            target: None,
             locals: [0; 16],
             header: None,
             looks: vec![in alloc; look; sizes.frames() as usize]?,
@@ -72,6 +85,11 @@ impl Known {
             sweep: None,
             calls: 0,
             births: 0,
+            stored: 0,
+            wanted: 0,
+            counted: vec![in alloc; false; sizes.threads as usize]?,
+            ended: vec![in alloc; false; sizes.threads as usize]?,
+            over: true,
         })
     }
 
@@ -122,7 +140,7 @@ impl Known {
     }
 }
 
-fn entry_by(by: u8, epoch: u32, call: Call, reply: Reply, address: u32) -> Entry
+pub(crate) fn entry_by(by: u8, epoch: u32, call: Call, reply: Reply, address: u32) -> Entry
     ensures { result ≡ entry_of by epoch call reply address }
 {
     Entry {

@@ -7,6 +7,7 @@
 #![tactic(auto)]
 
 mod cells;
+mod collecting;
 mod known;
 mod loads;
 mod looks;
@@ -18,4 +19,4 @@ mod words;
 pub use known::Known;
 pub use loads::{field_of, kind_told, reply_to_reference};
 pub use polls::answer_alone;
-pub use words::{class_of, left_by, pauses_before, runs, stored_by, wanted_by};
+pub use words::{left_by, pauses_before, runs, stored_by, wanted_by};

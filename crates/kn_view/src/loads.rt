@@ -15,6 +15,7 @@ use kn_rule::Position;
 
 impl Known {
     /// What a load of a header or of a field makes of it.
+    #[inline(always)]
     pub fn loads_body(&mut self, layouts: &[Layout], by: u8, word: u64) -> Option<Entry>
         requires { IsReadable self.old word }
         ensures { (z : Ground) (p : _) (a : _) (page : _) → z.layouts ≡ layouts.now →
@@ -70,6 +71,7 @@ impl Known {
     }
 
     /// What a load of a global makes of it.
+    #[inline(always)]
     pub fn loads_global(&mut self, by: u8, word: u32) -> Option<Entry>
         requires { IsReadable self.old word }
         ensures { (z : Ground) (p : _) (a : _) (page : _) →

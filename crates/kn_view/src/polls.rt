@@ -1,20 +1,23 @@
 //! What polls make of a view.
-ghost use Rattle.std.specs.Prelude.{◌≡◌, ◌+◌, ◌^◌, ◌<◌, ◌==◌, false, cond, length, replicate, slice_index};
+ghost use Rattle.std.specs.Prelude.{◌≡◌, ◌+◌, ◌^◌, ◌<◌, ◌≤◌, ◌==◌, false, cond, length, nat_le, replicate, slice_index};
 ghost use Rattle.kn_base.specs.declared.places.Place.TheVariants.{Phase};
 ghost use Rattle.kn_base.specs.Sizes.{frame_count};
 ghost use Rattle.kn_graph.specs.declared.calls.Reply.TheVariants.{Full, Nil};
 ghost use Rattle.kn_graph.specs.Arguments.{IsInRange};
 ghost use Rattle.kn_graph.specs.Counts;
 ghost use Rattle.kn_graph.specs.Ground.{Ground, IsGoodGround};
+ghost use Rattle.kn_rule.specs.declared.steps.Action.{Action};
 ghost use Rattle.kn_rule.specs.declared.steps.Action.TheVariants.{LoadsFor};
+ghost use Rattle.kn_rule.specs.Decoding.{phase_of};
+ghost use Rattle.kn_rule.specs.Phases.{is_run, last_done};
 ghost use Rattle.kn_rule.specs.Requests.{class_asked, asks_too_much};
 ghost use Rattle.kn_rule.specs.Steps.{found};
 ghost use Rattle.kn_rule.specs.Views.{View};
-ghost use Rattle.kn_rule.specs.Outcomes.{polled, poll_run, view_answer};
+ghost use Rattle.kn_rule.specs.Outcomes.{polled, poll_run, enters_for, epoch_told, waited, waits_at, view_answer};
 ghost use Rattle.kn_view.specs.Parts.{Makes, MayBegin, ground_of, view_with};
 
-use crate::known::Known;
-use crate::words::runs;
+use crate::known::{Known, entry_by};
+use crate::words::{done_before, pauses_before, runs};
 use kn_base::Sizes;
 use kn_graph::{Call, Entry, Reply};
 use kn_layout::Layout;
@@ -22,6 +25,7 @@ use kn_rule::{Position, class_of_words, is_past_frames, words_asked};
 
 impl Known {
     /// What a poll makes of it.
+    #[inline(always)]
     pub fn polls(
         &mut self,
         sizes: &Sizes,
@@ -40,7 +44,7 @@ impl Known {
         match self.position {
             Position::Entering => {
                 if runs(word) {
-                    self.begins(sizes, layouts, by, word, next)
+                    self.enters(sizes, layouts, by, word, next)
                 } else {
                     None
                 }
@@ -53,11 +57,88 @@ impl Known {
                     None
                 }
             }
+            Position::Waiting => self.waits(by, word),
             _ => None,
         }
     }
 
+    // A run phase lets it in: it waits for the epoch that it wants, or a call begins.
+    fn enters(
+        &mut self,
+        sizes: &Sizes,
+        layouts: &[Layout],
+        by: u8,
+        word: u64,
+        next: Option<Call>,
+    ) -> Option<Entry>
+        requires good { IsGoodGround (ground_of sizes.now layouts.now) }
+        requires next { MayBegin (ground_of sizes.now layouts.now) self.old next }
+        requires word { word < 2 ^ 35 }
+        requires width { length self.old.seen ≡ frame_count sizes.now }
+        ensures { let z : Ground = ground_of sizes.now layouts.now in
+            (page : _) → Makes z self.old self.new result (λ v. enters_for z by v Phase (LoadsFor next) (found word page) self.old.target next) }
+    {
+        match self.target {
+            None => self.begins(sizes, layouts, by, word, next),
+            Some(target) => self.waits_in(by, word, target),
+        }
+    }
+
+    // A poll of one that waits for an epoch: in a stop it leaves, where the epoch is not done.
+    fn waits(&mut self, by: u8, word: u64) -> Option<Entry>
+        requires word { word < 2 ^ 35 }
+        ensures { (z : Ground) (a : Action) (page : _) →
+            Makes z self.old self.new result (λ v. waits_at z by v Phase a (found word page) (is_run (phase_of word).code) self.old.target) }
+    {
+        match self.target {
+            None => None,
+            Some(target) => {
+                if runs(word) {
+                    self.waits_in(by, word, target)
+                } else if is_done(target, word) {
+                    let polled = self.polled;
+                    self.tells(by, word, polled, target)
+                } else {
+                    self.stands(Position::Leaving);
+                    None
+                }
+            }
+        }
+    }
+
+    // The same in a run phase.
+    fn waits_in(&mut self, by: u8, word: u64, target: u64) -> Option<Entry>
+        requires word { word < 2 ^ 35 }
+        ensures { (z : Ground) (a : Action) (page : _) →
+            Makes z self.old self.new result (λ v. waited z by v Phase a (found word page) target) }
+    {
+        if is_done(target, word) {
+            self.tells(by, word, word, target)
+        } else {
+            self.polled = word;
+            self.stands(Position::Waiting);
+            None
+        }
+    }
+
+    // The epoch is done that was wanted.
+    fn tells(&mut self, by: u8, word: u64, polled: u64, target: u64) -> Option<Entry>
+        requires word { word < 2 ^ 35 }
+        requires polled { polled < 2 ^ 35 }
+        requires done { target ≤ last_done (phase_of word) }
+        ensures { (z : Ground) (a : Action) (page : _) →
+            Makes z self.old self.new result (λ v. epoch_told z by v Phase a (found word page) polled target) }
+    {
+        self.polled = polled;
+        self.target = None;
+        self.header = None;
+        self.stands(Position::Between);
+        let reply = Reply::Epoch(target as u32);
+        Some(entry_by(by, pauses_before(word), Call::Collect, reply, 0))
+    }
+
     // In a run phase a call begins, or none.
+    #[inline(always)]
     fn begins(
         &mut self,
         sizes: &Sizes,
@@ -129,6 +210,7 @@ impl Known {
 
 /// What a view with these locals alone answers: whether two locals hold one object, that a local is
 /// null, that a cell is longer than a frame of its area or that the area has no frame.
+#[inline(always)]
 pub fn answer_alone(
     sizes: &Sizes,
     layouts: &[Layout],
@@ -166,6 +248,14 @@ fn nil_at(locals: &[u32; 16], r: u8) -> Option<Reply>
     } else {
         None
     }
+}
+
+// Whether an epoch is done at a phase word.
+fn is_done(epoch: u64, word: u64) -> bool
+    requires { word < 2 ^ 35 }
+    ensures { result ≡ nat_le epoch (last_done (phase_of word)) }
+{
+    epoch <= u64::from(done_before(word))
 }
 
 // Whether a call makes an object.

@@ -16,14 +16,14 @@ ghost use Rattle.kn_rule.specs.Views.{Open};
 ghost use Rattle.kn_view.specs.Parts.{Makes, MakesOwning, ground_of};
 
 use crate::known::Known;
-use crate::words::is_usable;
 use kn_base::{SINGLE_CLASS, Sizes, Span};
 use kn_graph::{Call, Entry, Reply};
 use kn_layout::Layout;
-use kn_rule::{Position, area_of, class_of_words, words_asked};
+use kn_rule::{Position, area_of, class_of_words, is_usable, words_asked};
 
 impl Known {
     /// What a look at a frame makes of it.
+    #[inline(always)]
     pub fn looks_at(
         &mut self,
         sizes: &Sizes,
@@ -69,6 +69,7 @@ impl Known {
     }
 
     // A call is full where its search is done with each frame of its area.
+    #[inline(always)]
     fn ends_search(
         &mut self,
         sizes: &Sizes,
@@ -92,6 +93,7 @@ impl Known {
     }
 
     // The frames are looked at from the last one on, which a search in order sees last.
+    #[inline(always)]
     fn is_over(&self, sizes: &Sizes, class: u16) -> bool
         requires { IsGood sizes.now }
         ensures { result ≡ done_from class self.now.seen self.now.refused (area_from sizes.now class) (area_count sizes.now class) }
@@ -105,6 +107,7 @@ impl Known {
         true
     }
 
+    #[inline(always)]
     fn is_done_with(&self, class: u16, frame: usize) -> bool
         ensures { result ≡ Rattle.kn_rule.specs.Searches.is_done_with class self.now.seen self.now.refused frame }
     {

@@ -1,16 +1,11 @@
 //! What words tell, and the word that an action leaves. Each but `pauses_before` and `left_by` is right for any number.
 ghost use Rattle.std.specs.Prelude.{◌≡◌, ◌^◌, ◌<◌};
-ghost use Rattle.kn_rule.specs.Decoding.{phase_of, frame_of, header_of};
-ghost use Rattle.kn_rule.specs.Phases.{is_run, pauses};
-ghost use Rattle.kn_rule.specs.Requests;
+ghost use Rattle.kn_rule.specs.Decoding.{phase_of, header_of};
+ghost use Rattle.kn_rule.specs.Phases.{is_run, is_stop, last_done, pauses};
 ghost use Rattle.kn_rule.specs.Steps.{word_stored, word_wanted, word_after};
 ghost use Rattle.kn_view.specs.Words.{MayLeave};
 
 use kn_rule::Action;
-
-const KIND: u64 = 1 << 56;
-
-const CLASS: u64 = 1 << 40;
 
 const LAYOUT: u64 = 1 << 48;
 
@@ -46,29 +41,25 @@ pub fn pauses_before(word: u64) -> u32
     }
 }
 
-/// The class of a frame word.
-pub fn class_of(word: u64) -> u16
-    ensures { result ≡ (frame_of word).class }
+/// The last epoch that is done at a phase word.
+pub fn done_before(word: u64) -> u32
+    requires { word < 2 ^ 35 }
+    ensures { result ≡ last_done (phase_of word) }
 {
-    (word % KIND / CLASS) as u16
+    let epoch = (word / 8) as u32;
+    if word % 8 == 0 {
+        epoch
+    } else {
+        epoch.saturating_sub(1)
+    }
 }
 
-/// Whether a search for a class may claim a frame with this word.
-pub fn is_usable(class: u16, word: u64) -> bool
-    ensures { result ≡ Rattle.kn_rule.specs.Requests.is_usable class word }
+/// Whether a phase word is that of a stop.
+pub fn stops(word: u64) -> bool
+    ensures { result ≡ is_stop (phase_of word).code }
 {
-    let kind = word / KIND;
-    if kind == 0 {
-        true
-    } else if kind == 1 {
-        true
-    } else if kind == 4 {
-        true
-    } else if kind == 2 {
-        class_of(word) == class
-    } else {
-        false
-    }
+    let code = word % 8;
+    if code == 1 { true } else { code == 4 }
 }
 
 /// The layout of a header word, and its number of fields.

@@ -1,5 +1,5 @@
 use Rattle.std.proofs.Common.{None, map, option_map, slice_get, subst}
-use Rattle.kn_rule.specs.declared.steps.Kind.TheVariants.{K2, K3, K5, K7, K10, K11, K12}
+use Rattle.kn_rule.specs.declared.steps.Kind.TheVariants.{K2, K3, K5, K7, K10, K11, K12, K14, K15}
 use Rattle.kn_rule.specs.Steps.{found, frame_in, word_wanted}
 use Rattle.kn_rule.specs.Views.{flattened}
 use Rattle.kn_view.specs.Parts.{ground_of}
@@ -50,3 +50,15 @@ returns-in-K12 g c = λ page lies.
     let s = c.args.step in
     noted_of (ground_of c.args.sizes.now c.args.layouts.now) s.by c.args.known.now c.clears.new.known c.args.holds.now.items None
     s.place s.act (found s.word page) c.args.kind K12 c.in-K12.is c.clears.new.holds.items (c.clears.ensures page)
+
+pub returns-in-K14 : goal.returns-in-K14
+returns-in-K14 g c = λ page lies.
+    let s = c.args.step in
+    noted_plain (ground_of c.args.sizes.now c.args.layouts.now) s.by c.args.known.now c.stores_phase.new.known c.args.holds.now.items None
+    s.place s.act (found s.word page) c.args.kind K14 c.in-K14.is c.requires.fits (c.stores_phase.ensures page)
+
+pub returns-in-K15 : goal.returns-in-K15
+returns-in-K15 g c = λ page lies.
+    let s = c.args.step in
+    noted_plain (ground_of c.args.sizes.now c.args.layouts.now) s.by c.args.known.now c.loads_state.new.known c.args.holds.now.items None
+    s.place s.act (found s.word page) c.args.kind K15 c.in-K15.is c.requires.fits (c.loads_state.ensures page)

@@ -1,6 +1,6 @@
 use Rattle.kn_rule.specs.declared.steps.Kind.TheVariants.{K3}
-use Rattle.kn_keep_heap.proofs.Keeps.{keeps_rule}
+use Rattle.kn_keep_heap.proofs.Keeps.{kept_as, local_kept}
 use Rattle.kn_keep_heap.proofs.laws.keeps_k3.Goals as goal
 
 pub returns : goal.returns
-returns c = keeps_rule K3
+returns c = kept_as K3 local_kept

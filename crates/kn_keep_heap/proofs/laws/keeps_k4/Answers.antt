@@ -1,6 +1,6 @@
 use Rattle.kn_rule.specs.declared.steps.Kind.TheVariants.{K4}
-use Rattle.kn_keep_heap.proofs.Keeps.{keeps_rule}
+use Rattle.kn_keep_heap.proofs.Keeps.{kept_as, body_kept}
 use Rattle.kn_keep_heap.proofs.laws.keeps_k4.Goals as goal
 
 pub returns : goal.returns
-returns c = keeps_rule K4
+returns c = kept_as K4 body_kept

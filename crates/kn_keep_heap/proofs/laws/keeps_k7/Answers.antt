@@ -1,6 +1,6 @@
 use Rattle.kn_rule.specs.declared.steps.Kind.TheVariants.{K7}
-use Rattle.kn_keep_heap.proofs.Keeps.{keeps_rule}
+use Rattle.kn_keep_heap.proofs.Keeps.{kept_as, global_kept}
 use Rattle.kn_keep_heap.proofs.laws.keeps_k7.Goals as goal
 
 pub returns : goal.returns
-returns c = keeps_rule K7
+returns c = kept_as K7 global_kept

@@ -1,6 +1,6 @@
 use Rattle.kn_rule.specs.declared.steps.Kind.TheVariants.{K8}
-use Rattle.kn_keep_heap.proofs.Keeps.{keeps_rule}
+use Rattle.kn_keep_heap.proofs.Keeps.{kept_as, birth_kept}
 use Rattle.kn_keep_heap.proofs.laws.keeps_k8.Goals as goal
 
 pub returns : goal.returns
-returns c = keeps_rule K8
+returns c = kept_as K8 birth_kept

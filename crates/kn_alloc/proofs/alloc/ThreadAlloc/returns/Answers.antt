@@ -1,6 +1,6 @@
 use Rattle.std.proofs.Common.{None, slice_set, refl, sym, ◌∙◌, subst}
 use Rattle.kn_steps.specs.Made.{LieAs, Stand}
-use Rattle.kn_alloc.specs.declared.stage.Stage.TheVariants.{Homes, Returns}
+use Rattle.kn_alloc.specs.declared.stage.Stage.TheVariants.{Refuses, Returns}
 use Rattle.kn_alloc.specs.Keeps.{HasHand, Keeps}
 use Rattle.kn_alloc.specs.Agree.{Agrees}
 use Rattle.kn_base.specs.Functions.{upd}
@@ -24,7 +24,7 @@ returns-clause-agrees g c =
     let here = g.T.Steps.here c.args.steps.now in
     let here' = g.T.Steps.here c.move_page.new.self in
     let moved = c.move_page.ensures.moved in
-    let s' = Homes hand.frame c.home_word-word.result in
+    let s' = Refuses hand.frame c.home_word-word.result in
     let out = c.hand_out-hand.ensures.after ∙ (λ t. record m { hands = slice_set m.hands (c.class_asked.ensures t) None }) in
     let kept = c.goes_to.ensures ∙ (λ t. record (out t) { stage = s' }) in
     subst (λ (q : Keeps). Agrees q (g.T.Steps.stand c.move_page.new.self) here') (sym kept)

@@ -1,7 +1,7 @@
 use Rattle.std.proofs.Common.{true, None, slice_set, refl, sym, ◌∙◌, subst}
 use Rattle.kn_base.specs.Functions.{upd}
 use Rattle.kn_steps.specs.Made.{LieAs, Stand}
-use Rattle.kn_alloc.specs.declared.stage.Stage.TheVariants.{Homing, Resting}
+use Rattle.kn_alloc.specs.declared.stage.Stage.TheVariants.{PutsHome, Resting}
 use Rattle.kn_alloc.specs.Keeps.{Keeps}
 use Rattle.kn_alloc.specs.Agree.{Agrees}
 use Rattle.kn_alloc.proofs.Returns.{may_go_back}
@@ -21,7 +21,7 @@ returns-clause-agrees g c =
     let here = g.T.Steps.here c.args.steps.now in
     let here' = g.T.Steps.here c.move_page.new.self in
     let moved = c.move_page.ensures.moved in
-    let s' = Homing hand.frame c.home_word-word.result in
+    let s' = PutsHome hand.frame c.home_word-word.result in
     let kept = c.goes_to.ensures ∙ (λ t. record (c.hand_out-hand.ensures.after t) { stage = s' }) in
     subst (λ (q : Keeps). Agrees q (g.T.Steps.stand c.move_page.new.self) here') (sym kept)
     (subst (λ (b : Stand). Agrees (record m { hands = slice_set m.hands c.args.class None; stage = s' }) b here') (sym moved.view)

@@ -1,8 +1,5 @@
-use Rattle.std.proofs.Common.{sym, subst, arith}
+use Rattle.std.proofs.Common.{arith}
 use Rattle.kn_rule.specs.Steps.{found}
-use Rattle.kn_steps.specs.declared.turns.Turn.TheVariants.{Moved}
-use Rattle.kn_mutator.specs.Mutating.{Mutating}
-use Rattle.kn_mutator.specs.Turns.{Goes}
 use Rattle.kn_mutator.proofs.CallTurns.{gets_global, global_is_small}
 use Rattle.kn_mutator.proofs.mutator.Mutator.gets_global.Goals as goal
 
@@ -11,13 +8,12 @@ overflow_cast-word g c =
     let t = g.T.Steps in
     let h = c.load-word.ensures in
     let l = global_is_small t.stand t.here t.did t.moved c.args.self.now c.args.steps.now c.load-word.new.self c.requires.agrees (found c.load-word.result h.0)
-    c.args.i c.args.r c.args.header c.requires.task h.1 h.2 in
+    c.args.i c.args.r c.requires.task.0 c.requires.task.1 h.1 h.2 in
     omega (arith, l)
 
 pub returns : goal.returns
 returns g c =
     let t = g.T.Steps in
     let h = c.load-word.ensures in
-    subst (λ (q : Mutating). Goes t.stand t.here t.did t.moved c.args.self.now c.args.steps.now c.load-word.new.self q Moved) (sym c.refers.ensures)
-    (gets_global t.stand t.here t.did t.moved c.args.self.now c.args.steps.now c.load-word.new.self c.requires.agrees (found c.load-word.result h.0)
-    c.args.i c.args.r c.args.header c.requires.task h.1 h.2)
+    gets_global t.stand t.here t.did t.moved c.args.self.now c.args.steps.now c.load-word.new.self c.requires.agrees (found c.load-word.result h.0)
+    c.args.i c.args.r c.requires.task.0 c.requires.task.1 h.1 h.2 c.refers.new.self c.refers.ensures

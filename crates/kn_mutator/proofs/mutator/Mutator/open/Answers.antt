@@ -5,57 +5,31 @@ use Rattle.kn_graph.specs.Ground.{IsGoodGround}
 use Rattle.kn_script.specs.Scripts.{Scripted, ground_of}
 use Rattle.kn_rule.specs.Rule.{fresh}
 use Rattle.kn_alloc.specs.Keeps.{new_keeps}
-use Rattle.kn_view.specs.Parts.{ground_of as ground_with}
 use Rattle.kn_mutator.specs.Agree.{Agrees}
 use Rattle.kn_mutator.specs.Mutating.{Mutating, first_task, new_mutating}
-use Rattle.kn_mutator.proofs.Opens.{calls_read, few_calls, good_ground, opened}
+use Rattle.kn_mutator.proofs.Opens.{few_calls, good_ground, ground_read, opened}
 use Rattle.kn_mutator.proofs.mutator.Mutator.open.Goals as goal
 
 pub invariant_of-result : goal.invariant_of-result
 invariant_of-result c =
-    let s : Scripted = c.args.script.now in
-    let copied = c.in_ok-copied.ensures in
-    let layouts : c.in_ok-copied.field-0.items ≡ s.layouts = copied ∙ (c.deref.ensures.value ∙ ap (λ (s : Scripted). s.layouts) c.script.view_is) in
-    let heap : ground_with c.script.inside.sizes c.in_ok-copied.field-0.items ≡ ground_of s =
-    λ t. record { sizes = (c.script.view_is t).sizes; layouts = layouts t } in
-    let threads = ap (λ (s : Scripted). s.threads) c.script.view_is in
-    let calls : c.in_ok-calls.calls.items ≡ slice_index_or s.threads c.args.i [] =
-    c.in_ok-calls.ensures.items ∙ (c.as_slice.ensures
-    ∙ calls_read c.script.inside.threads.items s.threads c.from.result c.args.i c.index.result.now c.requires.thread threads c.from.ensures
-    c.index.ensures) in (
+    let s = c.args.script.now in
+    let heap = ground_read _ s c.script.view_is _ _ c.in_ok-copy_layouts.ensures c.deref.ensures.value in (
       subst IsGoodGround (sym heap) (good_ground s c.args.i c.requires.good c.requires.thread),
-      subst (λ (l : List Call). length l ≤ MOST_CALLS) (sym calls) (few_calls s c.args.i c.requires.good c.requires.thread),
+      subst (λ (l : List Call). length l ≤ MOST_CALLS) (sym c.in_ok-calls.ensures) (few_calls s c.args.i c.requires.good c.requires.thread),
       omega (arith, c.in_ok-calls.calls.ok.0, c.len.ensures, c.in_ok-log.ensures.capacity),
     )
 
 pub returns-clause-agrees : goal.returns-clause-agrees
 returns-clause-agrees c = λ here.
     let s : Scripted = c.args.script.now in
-    let copied = c.in_ok-copied.ensures in
-    let layouts : c.in_ok-copied.field-0.items ≡ s.layouts = copied ∙ (c.deref.ensures.value ∙ ap (λ (s : Scripted). s.layouts) c.script.view_is) in
-    let heap : ground_with c.script.inside.sizes c.in_ok-copied.field-0.items ≡ ground_of s =
-    λ t. record { sizes = (c.script.view_is t).sizes; layouts = layouts t } in
-    let threads = ap (λ (s : Scripted). s.threads) c.script.view_is in
-    let calls : c.in_ok-calls.calls.items ≡ slice_index_or s.threads c.args.i [] =
-    c.in_ok-calls.ensures.items ∙ (c.as_slice.ensures
-    ∙ calls_read c.script.inside.threads.items s.threads c.from.result c.args.i c.index.result.now c.requires.thread threads c.from.ensures
-    c.index.ensures) in
+    let heap = ground_read _ s c.script.view_is _ _ c.in_ok-copy_layouts.ensures c.deref.ensures.value in
+    let calls : c.in_ok-calls.calls.items ≡ slice_index_or s.threads c.args.i [] = c.in_ok-calls.ensures in
     let task : c.first_task.result ≡ first_task (slice_index_or s.threads c.args.i []) =
     c.first_task.ensures ∙ ap first_task (c.deref-2.ensures.value ∙ calls) in
     let alloc : c.in_ok-open.field-0 ≡ new_keeps s.sizes c.args.i =
     c.in_ok-open.ensures ∙ ap (λ (s : Scripted). new_keeps s.sizes c.args.i) c.script.view_is in
     let log : c.in_ok-log.log.items ≡ [] = c.in_ok-log.ensures.items in
-    let is : record {
-      heap = ground_with c.script.inside.sizes c.in_ok-copied.field-0.items;
-      by = c.args.i;
-      calls = c.in_ok-calls.calls.items;
-      begun = 0;
-      epoch = 0;
-      locals = replicate LOCALS 0;
-      task = c.first_task.result;
-      alloc = c.in_ok-open.field-0;
-      log = c.in_ok-log.log.items;
-    } ≡ new_mutating (ground_of s) c.args.i (slice_index_or s.threads c.args.i []) = λ t. record {
+    let is : _ ≡ new_mutating (ground_of s) c.args.i (slice_index_or s.threads c.args.i []) = λ t. record {
       heap = heap t;
       by = c.args.i;
       calls = calls t;
@@ -67,4 +41,4 @@ returns-clause-agrees c = λ here.
       log = log t;
     } in
     subst (λ (m : Mutating). Agrees m (record { heap = ground_of s; by = c.args.i; view = fresh (ground_of s) }) here) (sym is)
-    (opened s c.args.i c.requires.good c.requires.thread c.requires.built here)
+    (opened s c.args.i c.requires.good c.requires.thread c.requires.made here)

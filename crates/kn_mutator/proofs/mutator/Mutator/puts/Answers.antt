@@ -1,7 +1,3 @@
-use Rattle.std.proofs.Common.{sym, subst}
-use Rattle.kn_steps.specs.declared.turns.Turn.TheVariants.{Moved}
-use Rattle.kn_mutator.specs.Mutating.{Mutating}
-use Rattle.kn_mutator.specs.Turns.{Goes}
 use Rattle.kn_mutator.proofs.CallTurns.{puts}
 use Rattle.kn_mutator.proofs.mutator.Mutator.puts.Goals as goal
 
@@ -9,6 +5,5 @@ pub returns : goal.returns
 returns g c =
     let t = g.T.Steps in
     let h = c.store.ensures in
-    subst (λ (q : Mutating). Goes t.stand t.here t.did t.moved c.args.self.now c.args.steps.now c.store.new.self q Moved) (sym c.answers.ensures)
-    (puts t.stand t.here t.did t.moved c.args.self.now c.args.steps.now c.store.new.self c.requires.agrees h.0 c.field.result c.args.n
-    c.args.s c.args.i c.args.header c.field.ensures h.1 h.2 c.requires.task)
+    puts t.stand t.here t.did t.moved c.args.self.now c.args.steps.now c.store.new.self c.requires.agrees h.0 c.field.result c.args.n
+    c.args.s c.args.i c.requires.task.0 c.field.ensures h.1 h.2 c.requires.task.1 c.answers.new.self c.answers.ensures

@@ -1,8 +1,4 @@
-use Rattle.std.proofs.Common.{sym, subst}
 use Rattle.kn_rule.specs.Steps.{found}
-use Rattle.kn_steps.specs.declared.turns.Turn.TheVariants.{Moved}
-use Rattle.kn_mutator.specs.Mutating.{Mutating}
-use Rattle.kn_mutator.specs.Turns.{Goes}
 use Rattle.kn_mutator.proofs.CallTurns.{reads_header}
 use Rattle.kn_mutator.proofs.mutator.Mutator.reads_header.Goals as goal
 
@@ -10,6 +6,6 @@ pub returns : goal.returns
 returns g c =
     let t = g.T.Steps in
     let h = c.load-word.ensures in
-    subst (λ (q : Mutating). Goes t.stand t.here t.did t.moved c.args.self.now c.args.steps.now c.load-word.new.self q Moved) (sym c.judges.ensures)
-    (reads_header t.stand t.here t.did t.moved c.args.self.now c.args.steps.now c.load-word.new.self c.requires.agrees (found c.load-word.result h.0)
-    c.args.call c.requires.task c.args.s c.requires.field.0 c.requires.field.1 c.requires.field.2 c.local.result c.local.ensures h.1 h.2)
+    reads_header t.stand t.here t.did t.moved c.args.self.now c.args.steps.now c.load-word.new.self c.requires.agrees (found c.load-word.result h.0)
+    c.args.call c.requires.task c.args.s c.requires.field.0 c.requires.field.1 c.requires.field.2 c.local.result c.local.ensures h.1 h.2
+    c.judges.new.self c.judges.ensures

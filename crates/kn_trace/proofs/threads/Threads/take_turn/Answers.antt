@@ -27,50 +27,32 @@ invariant_of-self-2 c = (
       c.turn_on-made.result.has_ended c.self.invariant.1 c.from.ensures c.from-2.ensures c.turn_on-made.ensures.ended,
 )
 
-pub returns-clause-holds : goal.returns-clause-holds
-returns-clause-holds c =
+pub returns : goal.returns
+returns c =
     let r : Running = record { mutators = c.self.inside.mutators.items; left = c.self.inside.schedule.left } in
     let is : r ≡ c.args.self.now = c.self.view_is in
     let holds = subst (λ (x : Running). Holds (trace_of c.args.board x)) (sym is) c.requires.holds in
-    let near : c.in-Some.thread < length r.mutators = omega (arith, c.in-Some.ensures.is_thread, c.self.invariant.0) in
+    let thread = c.in-Some.thread in
+    let near : thread < length r.mutators = omega (arith, c.in-Some.ensures.is_thread, c.self.invariant.0) in
     let m = c.index_mut-mutator.result.now in
-    let at = read_at r.mutators c.from.result c.in-Some.thread m c.from.ensures near c.index_mut-mutator.ensures.value in
+    let m' = c.turn_on-made.new.mutator in
+    let at = read_at r.mutators c.from.result thread m c.from.ensures near c.index_mut-mutator.ensures.value in
     let laws = c.turn_laws.ensures in
-    holds_next laws.others laws.heap laws.unswept laws.met c.agreement_laws.ensures.moves c.args.board c.turn_on-made.result.board r.mutators r.left
-    c.next_turn.new.self.left c.in-Some.thread c.from.result m c.turn_on-made.new.mutator c.from.ensures holds near at c.turn_on-made.ensures.made
-
-pub returns-clause-stays : goal.returns-clause-stays
-returns-clause-stays c =
-    let r : Running = record { mutators = c.self.inside.mutators.items; left = c.self.inside.schedule.left } in
-    let is : r ≡ c.args.self.now = c.self.view_is in
-    let holds = subst (λ (x : Running). Holds (trace_of c.args.board x)) (sym is) c.requires.holds in
-    let near : c.in-Some.thread < length r.mutators = omega (arith, c.in-Some.ensures.is_thread, c.self.invariant.0) in
-    let m = c.index_mut-mutator.result.now in
-    let at = read_at r.mutators c.from.result c.in-Some.thread m c.from.ensures near c.index_mut-mutator.ensures.value in
-    let laws = c.turn_laws.ensures in
-    let after : Running = record {
-      mutators = slice_set r.mutators c.from.result c.turn_on-made.new.mutator;
-      left = c.next_turn.new.self.left;
-    } in
-    subst (λ (x : Running). Stays (trace_of c.args.board x) (trace_of c.turn_on-made.result.board after)) is
-    (stays_next laws.others laws.heap laws.unswept laws.met c.agreement_laws.ensures.moves c.args.board c.turn_on-made.result.board r.mutators r.left
-    c.next_turn.new.self.left c.in-Some.thread c.from.result m c.turn_on-made.new.mutator c.from.ensures holds near at c.turn_on-made.ensures.made)
-
-pub returns-clause-takes : goal.returns-clause-takes
-returns-clause-takes c =
-    let r : Running = record { mutators = c.self.inside.mutators.items; left = c.self.inside.schedule.left } in
-    let is : r ≡ c.args.self.now = c.self.view_is in
-    let holds = subst (λ (x : Running). Holds (trace_of c.args.board x)) (sym is) c.requires.holds in
-    let near : c.in-Some.thread < length r.mutators = omega (arith, c.in-Some.ensures.is_thread, c.self.invariant.0) in
-    let m = c.index_mut-mutator.result.now in
-    let at = read_at r.mutators c.from.result c.in-Some.thread m c.from.ensures near c.index_mut-mutator.ensures.value in
-    let laws = c.turn_laws.ensures in
-    let next = next_is r.mutators c.self.inside.ended.items c.deref.result.now c.self.inside.schedule.count c.in-Some.thread r.left
-    c.next_turn.new.self.left c.deref.ensures.value c.self.invariant.1 c.self.invariant.0 c.in-Some.ensures.next in
-    let after : Running = record {
-      mutators = slice_set r.mutators c.from.result c.turn_on-made.new.mutator;
-      left = c.next_turn.new.self.left;
-    } in
-    subst (λ (x : Running). IsTurn (trace_of c.args.board x) (trace_of c.turn_on-made.result.board after)) is
-    (turns_next laws.others laws.heap laws.unswept laws.met c.agreement_laws.ensures.moves c.args.board c.turn_on-made.result.board r.mutators r.left
-    c.next_turn.new.self.left c.in-Some.thread c.from.result m c.turn_on-made.new.mutator c.from.ensures holds near at c.turn_on-made.ensures.made next)
+    let moves = c.agreement_laws.ensures.moves in
+    let left = c.next_turn.new.self.left in
+    let next = next_is r.mutators c.self.inside.ended.items c.deref.result.now c.self.inside.schedule.count thread r.left left c.deref.ensures.value
+    c.self.invariant.1 c.self.invariant.0 c.in-Some.ensures.next in
+    let w = c.args.board in
+    let w' = c.turn_on-made.result.board in
+    let made = c.turn_on-made.ensures.made in
+    let after : Running = record { mutators = slice_set r.mutators c.from.result m'; left = left } in
+    record {
+      holds = holds_next laws.others laws.heap laws.unswept laws.met moves w w' r.mutators r.left left thread c.from.result m m' c.from.ensures holds
+          near at made;
+      stays = subst (λ (x : Running). Stays (trace_of w x) (trace_of w' after)) is
+          (stays_next laws.others laws.heap laws.unswept laws.met moves w w' r.mutators r.left left thread c.from.result m m' c.from.ensures holds
+          near at made);
+      takes = subst (λ (x : Running). IsTurn (trace_of w x) (trace_of w' after)) is
+          (turns_next laws.others laws.heap laws.unswept laws.met moves w w' r.mutators r.left left thread c.from.result m m' c.from.ensures holds
+          near at made next);
+    }

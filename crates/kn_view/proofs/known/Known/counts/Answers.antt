@@ -11,12 +11,18 @@ returns c =
     (λ t. record {
       position = k.position;
       polled = c.args.word;
+      target = k.target;
       locals = k.locals;
       header = None;
       seen = unseen k.calls k.looks.items c.self.invariant.2 t;
       refused = unrefused k.calls k.looks.items c.self.invariant.2 t;
       taken = k.taken;
       sweep = option_map sweep_at k.sweep;
+      stored = k.stored;
+      wanted = k.wanted;
+      counted = k.counted.items;
+      ended = k.ended.items;
+      over = k.over;
       calls = k.calls + 1;
       births = k.births + one t;
     })

@@ -11,12 +11,18 @@ returns c =
     (λ t. record {
       position = k.position;
       polled = k.polled;
+      target = k.target;
       locals = k.locals;
       header = k.header;
       seen = seen_at (k.calls + 1) k.looks.items c.args.frame c.args.word look.refused_in t;
       refused = refused_as_before (k.calls + 1) k.looks.items c.args.frame look (k.calls + 1) c.args.word c.index_mut-look.ensures.value t;
       taken = k.taken;
       sweep = option_map sweep_at k.sweep;
+      stored = k.stored;
+      wanted = k.wanted;
+      counted = k.counted.items;
+      ended = k.ended.items;
+      over = k.over;
       calls = k.calls;
       births = k.births;
     })

@@ -1,0 +1,13 @@
+mod NextCalls
+mod Answered
+mod CellLists
+mod Marked
+mod CallTurns
+mod SetTurns
+mod BirthTurns
+mod CollectorTurns
+mod ThreadTurns
+mod OpenedCore
+mod Standing
+mod CoreWords
+mod Ended

@@ -1,0 +1,13 @@
+pub mod Shades
+pub mod Marks
+pub mod Histories
+pub mod Made
+pub mod Stacked
+pub mod Called
+pub mod CallLaws
+pub mod BirthLaw
+pub mod SetLaws
+pub mod CollectorLaws
+pub mod Decided
+pub mod Opening
+pub mod Turned

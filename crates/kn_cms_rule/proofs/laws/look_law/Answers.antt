@@ -1,0 +1,6 @@
+use Rattle.kn_cms_rule.specs.Words.{one_framed}
+use Rattle.kn_cms_rule.proofs.CollectorLaws.{look_keeps}
+use Rattle.kn_cms_rule.proofs.laws.look_law.Goals as goal
+
+pub returns : goal.returns
+returns c = λ base calls s s' rule k. look_keeps (one_framed base) calls s s' rule k

@@ -1,0 +1,6 @@
+use Rattle.kn_cms_rule.specs.Words.{one_framed}
+use Rattle.kn_cms_rule.proofs.SetLaws.{shade_keeps}
+use Rattle.kn_cms_rule.proofs.laws.shade_law.Goals as goal
+
+pub returns : goal.returns
+returns c = λ base calls s s' i near rule k. shade_keeps (one_framed base) calls s s' i near rule k

@@ -1,5 +1,0 @@
-use Rattle.kn_keep_heap.proofs.Keeps.{keeps_rule}
-use Rattle.kn_keep_heap.proofs.laws.steps_keep.Goals as goal
-
-pub returns : goal.returns
-returns c = keeps_rule

@@ -1,0 +1,138 @@
+-- What the clauses say where the collector's part changes.
+use Rattle.std.proofs.Common.{◌≡◌, ℕ, ◌≤◌, true, List, Option, Some, slice_get, refl, sym, subst, ap, ◌∙◌}
+use Rattle.kn_base.specs.declared.places.Place.TheVariants.{Phase, Want, State as StateOf, Global, Node, Frame, Side, Body}
+use Rattle.kn_base.specs.Pages.{FrameView}
+use Rattle.kn_base.specs.Functions.{upd}
+use Rattle.kn_base.proofs.Updates.{upd_here, part_same}
+use Rattle.kn_graph.specs.declared.entries.Entry.{Entry}
+use Rattle.kn_graph.specs.Ground.{Ground}
+use Rattle.kn_graph.specs.Graph.{Graph, Shape, shapes, pointers, numbers}
+use Rattle.kn_rule.specs.declared.positions.Position.{Position}
+use Rattle.kn_rule.specs.declared.parts.Taken.{Taken}
+use Rattle.kn_rule.specs.Places.{put}
+use Rattle.kn_rule.specs.Views.{View, Views, State, Open, Sweep, Rest, Collecting, views_of, rest_of}
+use Rattle.kn_rule.specs.HistoryClauses.{Timed}
+use Rattle.kn_rule.specs.CallerClauses.{AtEnd, Polled, Owners, Stopped, Wanted}
+use Rattle.kn_rule.specs.FrameClauses.{Handed, TakenIn, IsFilled}
+use Rattle.kn_rule.specs.Steps.{callers}
+use Rattle.kn_rule.specs.Rule.{Standing, RuleOf}
+use Rattle.kn_keep_heap.proofs.Loads.{put_same}
+use Rattle.kn_keep_heap.proofs.Parts.{local_same, own_same, taken_same, position_same, polled_same, target_same, header_same, log_same, calls_same}
+use Rattle.kn_keep_heap.proofs.Parts.{births_same, rest_put, width_same}
+
+-- the clauses, with another phase word and other parts that no sweep reads
+module _ (z : Ground) (paused done born : ℕ) (shape : ℕ → Shape) (points : ℕ → ℕ → Option ℕ) (number : ℕ → ℕ → ℕ)
+    (global stable weak back : ℕ → Option ℕ) (count : ℕ → ℕ) (phase want : ℕ) (state_word global_word node_word frame_word side body :
+    ℕ → ℕ)
+    (page : ℕ → Option FrameView) (position : ℕ → Position) (polled : ℕ → ℕ) (target : ℕ → Option ℕ) (local : ℕ → ℕ → ℕ)
+    (own : ℕ → ℕ → Option Open) (taken : ℕ → Option Taken) (log : ℕ → List Entry) (rest : ℕ → Rest)
+    (r : Standing z paused done born shape points number global stable weak back count phase want state_word global_word node_word frame_word
+    side body page position polled target local own taken log rest) where
+  pub stands_collected : (phase' : ℕ) (rest' : ℕ → Rest) →
+      ◌≡◌ {A = ℕ → Option Sweep} (λ c. (rest c).sweep) (λ c. (rest' c).sweep) →
+      Timed paused done phase' (rest' z.sizes.threads).collecting.stored →
+      Polled z paused phase' want position polled target log →
+      Owners z phase' position own →
+      AtEnd z position (λ c. (rest' c).collecting.ended) →
+      Stopped z phase' position (λ c. (rest' c).collecting.counted) →
+      Wanted z phase' want target log (rest' z.sizes.threads).collecting.wanted →
+      Standing z paused done born shape points number global stable weak back count phase' want state_word global_word node_word frame_word
+      side body page position polled target local own taken log rest'
+  stands_collected phase' rest' sweeps timed polling owners at_end stopped wanted = record {
+    timed = timed;
+    headed = r.headed;
+    fielded = r.fielded;
+    cleared = r.cleared;
+    globaled = r.globaled;
+    named = r.named;
+    apart = r.apart;
+    stated = r.stated;
+    at_end = at_end;
+    polling = polling;
+    owners = owners;
+    stopped = stopped;
+    wanted = wanted;
+    framed = r.framed;
+    housed = r.housed;
+    handed = subst (λ (x : ℕ → Option Sweep). Handed z.sizes (callers z.sizes) (IsFilled z.sizes born shape side) own taken x) sweeps r.handed;
+    classed = r.classed;
+    placed = r.placed;
+    taken_in = subst (λ (x : ℕ → Option Sweep). TakenIn z position own taken x) sweeps r.taken_in;
+  }
+
+module _ (z : Ground) (s : State) (g : Graph) (rule : RuleOf z g s.word s.page (views_of s.caller) s.history) (by : ℕ)
+    (is : by ≡ z.sizes.threads) (part : Collecting) where
+  abbrev V : Views
+  V = views_of s.caller
+
+  abbrev pub collector_view : View
+  collector_view = record (s.caller by) { collecting = part }
+
+  abbrev pub rest_with : ℕ → Rest
+  rest_with = upd V.rest by (rest_of collector_view)
+
+  pub part_is : (rest_with z.sizes.threads).collecting ≡ part
+  part_is = ap (λ (x : Rest). x.collecting) (ap (upd V.rest by (rest_of collector_view)) (sym is) ∙ upd_here V.rest by (rest_of collector_view))
+
+  pub sweeps_stay : ◌≡◌ {A = ℕ → Option Sweep} (λ c. (V.rest c).sweep) (λ c. (rest_with c).sweep)
+  sweeps_stay = sym (part_same (λ (x : Rest). x.sweep) V.rest by (rest_of collector_view) refl)
+
+  pub views_with : views_of (upd s.caller by collector_view) ≡ record V { rest = rest_with }
+  views_with =
+      let v : View = collector_view in
+      λ t. record {
+        position = position_same s.caller by v refl t;
+        polled = polled_same s.caller by v refl t;
+        target = target_same s.caller by v refl t;
+        local = local_same s.caller by v refl t;
+        header = header_same s.caller by v refl t;
+        own = own_same s.caller by v refl t;
+        taken = taken_same s.caller by v refl t;
+        log = log_same s.caller by v refl t;
+        calls = calls_same s.caller by v refl t;
+        births = births_same s.caller by v refl t;
+        rest = rest_put s.caller by v t;
+        width = width_same s.caller by v refl refl t;
+      }
+
+  -- the phase is stored, and what is kept of it, of the mutators ended and counted, and of the epoch wanted is right for it
+  pub collected : (w : ℕ) → Timed g.paused g.done w part.stored → Polled z g.paused w (s.word Want) V.position V.polled V.target V.log →
+      Owners z w V.position V.own → AtEnd z V.position (λ _. part.ended) → Stopped z w V.position (λ _. part.counted) →
+      Wanted z w (s.word Want) V.target V.log part.wanted →
+      RuleOf z g (put s.word Phase w) s.page (views_of (upd s.caller by collector_view)) s.history
+  collected w timed polling owners at_end stopped wanted =
+      let back = sym part_is in
+      subst (λ W. RuleOf z g (put s.word Phase w) s.page W s.history) (sym views_with)
+      (record {
+        told = rule.told;
+        formed = rule.formed;
+        read_right = rule.read_right;
+        localed = rule.localed;
+        stands = stands_collected z g.paused g.done g.born (shapes g) (pointers g) (numbers g) g.global g.stable g.weak g.back g.count
+            (s.word Phase) (s.word Want) (λ c. s.word (StateOf c)) (λ i. s.word (Global i)) (λ k. s.word (Node k)) (λ p. s.word (Frame p))
+            (λ a. s.word (Side a)) (λ a. s.word (Body a)) s.page V.position V.polled V.target V.local V.own V.taken V.log V.rest
+            rule.stands w rest_with sweeps_stay
+            (subst (λ (x : Collecting). Timed g.paused g.done w x.stored) back timed)
+            polling owners
+            (record {
+              seen = λ i l e. at_end.seen i l (subst (λ (x : Collecting). slice_get x.ended i ≡ Some true) part_is e);
+              all = at_end.all;
+            })
+            (record {
+              still = stopped.still;
+              stopping = λ h i l e. stopped.stopping h i l (subst (λ (x : Collecting). slice_get x.counted i ≡ Some true) part_is e);
+            })
+            (subst (λ (x : Collecting). Wanted z w (s.word Want) V.target V.log x.wanted) back wanted);
+      })
+
+  -- no word that a clause reads is stored
+  pub collected_still : part.stored ≡ (s.caller by).collecting.stored → AtEnd z V.position (λ _. part.ended) →
+      Stopped z (s.word Phase) V.position (λ _. part.counted) → part.wanted ≤ s.word Want →
+      RuleOf z g s.word s.page (views_of (upd s.caller by collector_view)) s.history
+  collected_still same at_end stopped few =
+      let old = rule.stands.wanted in
+      subst (λ x. RuleOf z g x s.page (views_of (upd s.caller by collector_view)) s.history) (put_same s.word Phase (s.word Phase) refl)
+      (collected (s.word Phase)
+      (subst (λ n. Timed g.paused g.done (s.word Phase) n) (sym (same ∙ ap (λ c. (s.caller c).collecting.stored) is)) rule.stands.timed)
+      rule.stands.polling rule.stands.owners at_end stopped
+      (record { reached = old.reached; known = few; targets = old.targets; few = old.few }))

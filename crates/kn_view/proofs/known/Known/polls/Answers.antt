@@ -1,0 +1,19 @@
+use Rattle.std.proofs.Common.{◌≡◌, ◌∙◌, ap, sym}
+use Rattle.kn_base.specs.declared.places.Place.TheVariants.{Phase}
+use Rattle.kn_rule.specs.declared.positions.Position.TheVariants.{Waiting}
+use Rattle.kn_rule.specs.declared.steps.Action.TheVariants.{LoadsFor}
+use Rattle.kn_rule.specs.Decoding.{phase_of}
+use Rattle.kn_rule.specs.Phases.{is_run}
+use Rattle.kn_rule.specs.Steps.{found}
+use Rattle.kn_rule.specs.Outcomes.{poll_at}
+use Rattle.kn_view.specs.Parts.{Part, ground_of, view_with}
+use Rattle.kn_view.proofs.known.Known.polls.Goals as goal
+
+pub returns-in-Waiting : goal.returns-in-Waiting
+returns-in-Waiting c = λ page owned log.
+    let z = ground_of c.args.sizes.now c.args.layouts.now in
+    let v = view_with z c.args.self.now owned log in
+    let f = found c.args.word page in
+    let at : Waiting ≡ c.args.self.now.position = sym c.in-Waiting.is ∙ ap (λ (q : Part). q.position) c.self.view_is in
+    c.waits.ensures z (LoadsFor c.args.next) page owned log
+    ∙ (λ t. poll_at z c.args.by v Phase (LoadsFor c.args.next) f (at t) (is_run (phase_of c.args.word).code) c.args.next)

@@ -1,5 +1,0 @@
-use Rattle.kn_view.proofs.Tellings.{class_told}
-use Rattle.kn_view.proofs.words.class_of.Goals as goal
-
-pub returns : goal.returns
-returns c = class_told c.args.word

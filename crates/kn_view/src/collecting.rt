@@ -1,0 +1,66 @@
+//! What the collector's steps, and a wish for an epoch, make of a view.
+ghost use Rattle.std.specs.Prelude.{◌≡◌, ℕ, ◌<◌, length, true};
+ghost use Rattle.kn_base.specs.declared.places.Place.TheVariants.{State};
+ghost use Rattle.kn_graph.specs.Ground.{Ground};
+ghost use Rattle.kn_rule.specs.declared.steps.Action.{Action};
+ghost use Rattle.kn_rule.specs.declared.steps.Action.TheVariants.{Loads, Stores};
+ghost use Rattle.kn_rule.specs.Steps.{Found};
+ghost use Rattle.kn_rule.specs.Outcomes.{count_at, phase_stored, state_loaded, wanted_at};
+ghost use Rattle.kn_view.specs.Parts.{Makes};
+
+use crate::known::Known;
+use crate::words::{pauses_before, stops};
+use kn_rule::{Action, Position};
+
+impl Known {
+    /// What a raise of the epoch wanted, or a load of it, makes of it.
+    pub fn wants(&mut self, word: u64)
+        ensures { (z : Ground) (c : ℕ) (p : _) (a : Action) (f : Found) → f.word ≡ word →
+            Makes z self.old self.new None (λ v. wanted_at z c v p a f self.old.position) }
+    {
+        match self.position {
+            Position::Calling(_) => {
+                self.target = Some(u64::from(pauses_before(self.polled)) + 1);
+                self.stands(Position::Waiting);
+            }
+            _ => self.wanted = word,
+        }
+    }
+
+    /// What a store of the phase makes of it.
+    pub fn stores_phase(&mut self, word: u64)
+        ensures { (z : Ground) (c : ℕ) (p : _) (f : Found) → z.sizes.threads ≡ length self.old.counted →
+            Makes z self.old self.new None (λ v. phase_stored z c v p (Stores word) f) }
+    {
+        self.stored = word;
+        if stops(word) {
+            self.counted.fill(false);
+        }
+    }
+
+    /// What a load of a mutator's state makes of it.
+    pub fn loads_state(&mut self, mutator: u8, word: u64)
+        requires counted { mutator < length self.old.counted }
+        requires ended { mutator < length self.old.ended }
+        ensures { (z : Ground) (c : ℕ) (a : Action) (f : Found) → f.word ≡ word →
+            Makes z self.old self.new None (λ v. state_loaded z c v (State mutator) a f) }
+    {
+        self.counted[usize::from(mutator)] = word != 1;
+        self.ended[usize::from(mutator)] = word == 2;
+    }
+
+    /// What the store that begins the marking, or a load of the count of open work, makes of it.
+    pub fn counts_work(&mut self, act: Action, word: u64)
+        ensures { (z : Ground) (c : ℕ) (p : _) (f : Found) → f.word ≡ word →
+            Makes z self.old self.new None (λ v. count_at z c v p act f act) }
+    {
+        match act {
+            Action::Stores(_) => self.over = false,
+            _ => {
+                if word == 0 {
+                    self.over = true;
+                }
+            }
+        }
+    }
+}
