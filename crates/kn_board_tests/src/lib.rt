@@ -1,4 +1,4 @@
-//! Tests of `kn_board` over real pages. This crate owns nothing.
+//! Tests of `kn_board` over real pages, and of a stop on it. This crate owns nothing.
 #![tactic(auto)]
 
 #[cfg(test)]

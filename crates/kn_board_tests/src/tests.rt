@@ -1,3 +1,5 @@
+mod stops;
+
 ghost use Rattle.std.specs.Prelude.{◌≡◌, ◌<◌};
 ghost use Rattle.kn_rule.specs.declared.positions.Position.TheVariants.{Out, Entering};
 

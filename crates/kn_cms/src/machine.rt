@@ -4,6 +4,7 @@ ghost use Rattle.std.specs.Prelude.{◌≡◌, ◌↔◌, ℕ, ◌<◌, Option, 
 ghost use Rattle.std.specs.List.{AllByRecursion};
 ghost use Rattle.kn_graph.specs.Graph.{empty_graph};
 ghost use Rattle.kn_graph.specs.Epochs.{WasUnreachable};
+ghost use Rattle.kn_graph.specs.Logs.{calls_of, log_of};
 ghost use Rattle.kn_script.specs.Good.{IsGoodScript};
 ghost use Rattle.kn_script.specs.Scripts.{ground_of};
 ghost use Rattle.kn_cms_rule.specs.declared.stages.Stage.TheVariants.{Finished, Waiting};
@@ -50,6 +51,7 @@ impl Core {
         requires good { IsGoodScript script.now }
         requires calls { AllByRecursion (AllByRecursion (λ call. is_core_call call ≡ true)) script.now.threads }
         ensures ground { IfOk result (λ core. core.ground ≡ ground_of script.now) }
+        ensures calls { IfOk result (λ core. core.calls ≡ script.now.threads) }
         ensures opened { IfOk result (λ core. StandsFor core (opening (calls_of_threads script.now.threads))) }
     {
         let lists = Lists::open(alloc, script)?;
@@ -85,11 +87,26 @@ impl Core {
         }
     }
 
+    /// The number of threads.
+    pub fn threads(&self) -> u8
+        ensures { result ≡ self.now.ground.sizes.threads }
+    {
+        self.lists.ground.threads() as u8
+    }
+
     /// The number of objects.
     pub fn objects(&self) -> u32
         ensures { result ≡ length self.now.cells.cells }
     {
         self.lists.cells.born() as u32
+    }
+
+    /// How many calls a thread has answered.
+    pub fn answered(&self, thread: u8) -> u32
+        requires { thread < self.now.ground.sizes.threads }
+        ensures { (s : State) → StandsFor self.now s → result ≡ length (calls_of (log_of thread s.history)) }
+    {
+        self.lists.answered(thread)
     }
 
     /// The entries so far, with all words of the heap as one frame.

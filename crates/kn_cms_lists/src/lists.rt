@@ -2,12 +2,12 @@
 //! for is said by `StandsFor` in `specs/Kept.antt`.
 
 ghost use Rattle.std.specs.Prelude.{◌≡◌, ℕ, ◌+◌, ◌-◌, ◌^◌, ◌<◌, ◌≤◌, Option, Some, None, IfOk, [], ◌∷◌, ◌++◌};
-ghost use Rattle.std.specs.Prelude.{length, replicate};
+ghost use Rattle.std.specs.Prelude.{length, min, replicate};
 ghost use Rattle.std.specs.Prelude.{slice_index, slice_index_or, slice_set};
 ghost use Rattle.kn_script.specs.Good.{IsGoodScript};
 ghost use Rattle.kn_script.specs.Scripts.{ground_of};
 ghost use Rattle.kn_cms_rule.specs.declared.stages.Doing.TheVariants.{Free};
-ghost use Rattle.kn_cms_lists.specs.Kept.{answered_lists, epoch_at, next_call, opening_lists};
+ghost use Rattle.kn_cms_lists.specs.Kept.{answered_lists, calls_of_threads, epoch_at, next_call, opening_lists};
 
 use crate::cells::Cells;
 use crate::colours::Colours;
@@ -95,6 +95,19 @@ impl Lists {
             calls.get(number_at(&self.made, thread) as usize).copied()
         } else {
             None
+        }
+    }
+
+    /// How many calls a thread has answered.
+    pub fn answered(&self, thread: u8) -> u32
+        ensures { result ≡ min (slice_index self.now.made thread) (length (calls_of_threads self.now.calls thread)) }
+    {
+        let thread = thread as usize;
+        if thread < self.calls.len() {
+            let made = number_at(&self.made, thread);
+            self.calls[thread].as_slice().len().min(made as usize) as u32
+        } else {
+            0
         }
     }
 

@@ -7,6 +7,12 @@ abbrev pub without_dashes : List (List ℕ) → List (List ℕ)
 without_dashes [] = []
 without_dashes (word ∷ words) = if bytes_eq word (codes "--") then words else word ∷ without_dashes words
 
--- the words ask for a trace
+-- the words ask for a form of the program
+abbrev pub Asks : List ℕ → List (List ℕ) → Type 0
+Asks form words = without_dashes words ≡ form ∷ []
+
 abbrev pub AskTrace : List (List ℕ) → Type 0
-AskTrace words = without_dashes words ≡ codes "trace" ∷ []
+AskTrace = Asks (codes "trace")
+
+abbrev pub AskCms : List (List ℕ) → Type 0
+AskCms = Asks (codes "cms")

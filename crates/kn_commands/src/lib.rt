@@ -6,12 +6,15 @@
 //! nothing is kept here between two calls.
 #![tactic(auto)]
 
+mod cms;
+mod ends;
 mod program;
 mod refusals;
 mod status;
 mod trace;
 mod words;
 
+pub use cms::run_cms;
 pub use program::{exit_of, run_program, words_of};
 pub use status::Status;
 pub use trace::{TraceEnd, run_trace};

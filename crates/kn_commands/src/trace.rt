@@ -1,23 +1,22 @@
 ghost use Rattle.std.specs.Prelude.{◌≡◌, Some, None, IfOk, IfErr, OnOk, is_none, string_bytes};
 ghost use Rattle.std.specs.Option.{option_map};
-ghost use Rattle.kn_graph.specs.Histories.{IsLegal};
 ghost use Rattle.kn_io.specs.Counts.{Rose, NeverFalls};
 ghost use Rattle.kn_io.specs.Devices.{seen};
 ghost use Rattle.kn_io.specs.Told.{GivesSome};
 ghost use Rattle.kn_report.specs.Reports.{line};
 ghost use Rattle.kn_script.specs.Good.{IsGoodScript};
-ghost use Rattle.kn_script.specs.Scripts.{ground_of};
-ghost use Rattle.kn_trace.specs.Runs.{AreBuilt, ArePartial, IsRunOf};
-ghost use Rattle.kn_commands.specs.Ends.{IsFinished, IsRead, IsReported, IsSilent, IsTraceEnd, IsUnread, Refuses, Writes};
+ghost use Rattle.kn_lines.specs.declared.built.TheConstants.{TODAY};
+ghost use Rattle.kn_trace.specs.Runs.{AreBuilt};
+ghost use Rattle.kn_commands.specs.Ends.{IsFinished, IsRead, IsReported, IsSilent, IsTraceEnd, IsTraceReport, IsTraceRun, IsUnread};
+ghost use Rattle.kn_commands.specs.Ends.{Refuses, Writes};
 
-use crate::refusals::refusal_line;
+use crate::ends::{end_run, read_bytes, tell};
 use crate::status::Status;
-use kn_base::LONGEST_TEXT;
 use kn_board::Board;
-use kn_io::{ReadEnd, Sink, Source, read_all, write_all};
+use kn_io::{Sink, Source};
 use kn_page::Page;
 use kn_report::report;
-use kn_script::{Fault, Script, Why, parse, state_laws};
+use kn_script::{Fault, Script, parse, state_laws};
 use kn_trace::{Traced, trace};
 use std::alloc::{AllocError, Global};
 
@@ -36,37 +35,18 @@ struct Made {
     report: Option<String>,
 }
 
-/// Writes a text. Where the sink fails a prefix of it went out.
-pub fn write_text<K: Sink>(sink: &mut K, text: &[u8])
-    ensures writes { Writes text.now (K.held sink.old) (K.held sink.new) (K.faults sink.old) (K.faults sink.new) }
-    ensures flushed { (Rose (K.faults sink.old) (K.faults sink.new) → ⊥) → K.is_flushed sink.new }
-    ensures count { NeverFalls (K.faults sink.old) (K.faults sink.new) }
-{
-    let _ = write_all(sink, text);
-}
-
 /// Reads a script to its end.
 fn read_script<S: Source>(alloc: Global, source: &mut S) -> Result<Script, Status>
     ensures good { IfOk result IsGoodScript }
     ensures built { IfOk result (λ script. AreBuilt script.threads) }
-    ensures read { IfOk result (λ script. IsRead script (S.left source.old) (S.left source.new)) }
-    ensures unread { IfErr result (λ status. IsUnread status
+    ensures read { IfOk result (λ script. IsRead TODAY script (S.left source.old) (S.left source.new)) }
+    ensures unread { IfErr result (λ status. IsUnread TODAY status
         (S.left source.old) (S.left source.new) (S.faults source.old) (S.faults source.new)) }
     ensures ok_without_fault { OnOk result (S.faults source.new ≡ S.faults source.old) }
     ensures left { GivesSome (S.left source.old) (S.left source.new) }
     ensures count { NeverFalls (S.faults source.old) (S.faults source.new) }
 {
-    let bytes = match read_all(alloc, source, LONGEST_TEXT) {
-        Ok(bytes) => bytes,
-        Err(ReadEnd::Failed) => return Err(Status::ReadFault),
-        Err(ReadEnd::TooLong { line }) => {
-            return Err(Status::Script {
-                line,
-                why: Why::Long,
-            });
-        }
-        Err(ReadEnd::Memory) => return Err(Status::Memory),
-    };
+    let bytes = read_bytes(alloc, source)?;
     match parse(alloc, &bytes) {
         Ok(script) => Ok(script),
         Err(Fault::Bad { line, why }) => Err(Status::Script { line, why }),
@@ -82,9 +62,7 @@ fn refuse<K: Sink>(sink: &mut K, status: Status) -> TraceEnd
     ensures silent { IsSilent status → sink.new ≡ sink.old }
     ensures count { NeverFalls (K.faults sink.old) (K.faults sink.new) }
 {
-    if let Status::Script { line, why } = status {
-        write_text(sink, refusal_line(line, why).as_str().as_bytes());
-    }
+    tell(sink, status);
     TraceEnd {
         status,
         board: None,
@@ -95,10 +73,9 @@ fn refuse<K: Sink>(sink: &mut K, status: Status) -> TraceEnd
 fn run(alloc: Global, script: &Script) -> Result<Made, AllocError>
     requires good { IsGoodScript script.now }
     requires built { AreBuilt script.now.threads }
-    ensures run { IfOk result (λ made. IsRunOf script.now (is_none made.report) made.board) }
-    ensures legal { IfOk result (λ made. IsLegal (ground_of script.now) made.board.history) }
-    ensures partial { IfOk result (λ made. ArePartial script.now made.board.history) }
-    ensures reported { IfOk result (λ made. IsReported script.now made.board.history (option_map string_bytes made.report)) }
+    ensures run { IfOk result (λ made. IsTraceRun script.now (is_none made.report) made.board) }
+    ensures reported { IfOk result (λ made.
+        IsReported TODAY IsTraceRun IsTraceReport script.now made.board (option_map string_bytes made.report)) }
 {
     let Traced {
         board,
@@ -127,29 +104,9 @@ fn finish<K: Sink>(sink: &mut K, made: Made) -> TraceEnd
     ensures count { NeverFalls (K.faults sink.old) (K.faults sink.new) }
 {
     let Made { board, report } = made;
-    let status = match report {
-        Some(text) => write_report(sink, text.as_bytes()),
-        None => {
-            write_text(sink, b"turns spent\n");
-            Status::Spent
-        }
-    };
     TraceEnd {
-        status,
+        status: end_run(sink, report),
         board: Some(board),
-    }
-}
-
-/// Writes the report of a run.
-fn write_report<K: Sink>(sink: &mut K, text: &[u8]) -> Status
-    ensures finished { IsFinished result (Some text.now)
-        (K.held sink.old) (K.held sink.new) (K.faults sink.old) (K.faults sink.new) }
-    ensures flushed { result ≡ Status.Ok → K.is_flushed sink.new }
-    ensures count { NeverFalls (K.faults sink.old) (K.faults sink.new) }
-{
-    match write_all(sink, text) {
-        Ok(()) => Status::Ok,
-        Err(_) => Status::WriteFault,
     }
 }
 

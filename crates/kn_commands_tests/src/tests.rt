@@ -1,5 +1,5 @@
 use kn_base::{FrameNo, FramePage};
-use kn_commands::{Status, exit_of, run_trace, run_words};
+use kn_commands::{Status, exit_of, run_cms, run_trace, run_words};
 use kn_io::{MemSink, MemSource};
 use kn_script::Why;
 use std::alloc::{AllocError, Global};
@@ -9,7 +9,7 @@ use std::test::Fail;
 const SCRIPT: &str =
     "heap 1 64 0 64 0 2\nnames 0 0 0 0\nlayout fields ref int\nthreads 1\nthread 0\nnew 0 0\nsame 0 0\n";
 
-const USAGE: &str = "usage: kn_run trace | run | gen N\n";
+const USAGE: &str = "usage: kn_run trace | run | gen N | cms\n";
 
 /// What a report says behind the number of its calls.
 const TAIL: &str = "epochs 0\nreleased 0\nqueued 0\nfinalized 0\nend\n";
@@ -244,10 +244,13 @@ fn judged(alloc: Global, words: &[&str]) -> Result<(u8, bool), AllocError> {
 
 #[test]
 fn words_are_judged(rt: HostRuntime) -> Result<(), Fail> {
-    let forms: [(&[&str], u8); 10] = [
+    let forms: [(&[&str], u8); 13] = [
         (&["trace"], 0),
         (&["--", "trace"], 0),
         (&["trace", "--"], 0),
+        (&["cms"], 0),
+        (&["--", "cms"], 0),
+        (&["cms", "trace"], 1),
         (&[], 1),
         (&["--"], 1),
         (&["trace", "x"], 1),
@@ -259,6 +262,53 @@ fn words_are_judged(rt: HostRuntime) -> Result<(), Fail> {
     for (words, number) in forms {
         let (found, is_usage) = judged(rt.alloc(), words)?;
         assert!(rt; found == number && is_usage == (number == 1));
+    }
+    Ok(())
+}
+
+/// Whether a script of the core in two parts ends with this number, and this text is written.
+fn core_ends_with(
+    alloc: Global,
+    script: (&str, &str),
+    wanted: u8,
+    told: &str,
+) -> Result<bool, AllocError> {
+    let text = [script.0, script.1].concat(alloc)?;
+    let mut source = MemSource::open(alloc, text.as_bytes(), 64, &[])?;
+    let mut sink = MemSink::open(alloc, 1000, 64, &[])?;
+    let status = run_cms(alloc, &mut source, &mut sink);
+    Ok(status.number() == wanted && sink.held() == told.as_bytes())
+}
+
+#[test]
+fn cores_are_run(rt: HostRuntime) -> Result<(), Fail> {
+    let race =
+        "thread 0\nnew 0 0\nnew 1 0\nset 0 0 1\nclear 1\nget 2 0 0\nset 0 0 3\norder 0*6 c 0*4\n";
+    let kept =
+        "thread 0\nok\nok\nok\nok\nref\nok\nobject 0 kept\nobject 1 kept\nsnapshot 2\ncondemned 0\nend\n";
+    let lost =
+        "thread 0\nok\nok\nobject 0 condemned\nobject 1 kept\nsnapshot 2\ncondemned 1\nend\n";
+    let rows = [
+        (race, 0, kept),
+        ("thread 0\nnew 0 0\nnew 0 0\norder 0*2 c\n", 0, lost),
+        ("thread 0\nnew 0 0\nnew 0 0\norder 0/2 c r*4\n", 0, lost),
+        (
+            "turns 7\nthread 0\nnew 0 0\nnew 0 0\norder 0*2 c\n",
+            0,
+            lost,
+        ),
+        (
+            "turns 6\nthread 0\nnew 0 0\nnew 0 0\norder 0*2 c\n",
+            3,
+            "turns spent\n",
+        ),
+        ("thread 0\nnew 0 0\nput 0 1 7\n", 2, "line 7 word\n"),
+        ("order c@mark\n", 2, "line 5 word\n"),
+        ("order f\n", 2, "line 5 word\n"),
+    ];
+    let head = "heap 1 64 0 64 0 2\nnames 0 0 0 0\nlayout fields ref int\nthreads 1\n";
+    for (script, wanted, told) in rows {
+        assert!(rt; core_ends_with(rt.alloc(), (head, script), wanted, told)?);
     }
     Ok(())
 }

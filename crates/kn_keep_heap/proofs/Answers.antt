@@ -26,7 +26,7 @@ use Rattle.kn_rule.specs.Views.{Views}
 use Rattle.kn_rule.specs.Steps.{entry_of}
 use Rattle.kn_rule.specs.HistoryClauses.{Told, Formed, IsRightCall, under_way, births_under_way}
 use Rattle.kn_rule.specs.ObjectClauses.{IsCleared, Localed, ReadRight}
-use Rattle.kn_rule.specs.CallerClauses.{state_number, IsSince, IsIn, IsBusy, IsInOrLeaving}
+use Rattle.kn_rule.specs.CallerClauses.{state_number, IsSince, IsIn, IsBusy, IsInOrLeaving, IsDue}
 use Rattle.kn_rule.specs.Rule.{Represents, RuleOf}
 use Rattle.kn_keep_heap.specs.Answered.{IsBehindAnswer}
 use Rattle.kn_keep_heap.proofs.Positions.{formed_at, at_end_at, stated_at, owners_at, cleared_at, apart_at, taken_in_at, told_answered}
@@ -92,6 +92,12 @@ right_behind z Between b = tt
 right_behind z (Writing r w n) b = b
 right_behind z (Adding n) b = tt
 right_behind z _ b = absurd b
+
+pub due_behind : (q : Position) → IsBehindAnswer q → (t : Option ℕ) → IsDue q t
+due_behind Between b t = tt
+due_behind (Writing r w n) b t = tt
+due_behind (Adding n) b t = tt
+due_behind _ b t = absurd b
 
 pub in_behind : (q : Position) → IsBehindAnswer q → IsInOrLeaving q
 in_behind Between b = tt
@@ -162,11 +168,12 @@ module _ (z : Ground) (g : Graph) (v : Views) (h : List Entry) (told : Told z g 
           stated = stated_at z v.position by q (λ c. word (StateOf c)) a.stated less (state_behind q b ∙ ap state_number (sym is));
           at_end = at_end_at z v.position by q (λ c. (v.rest c).collecting.ended) a.at_end less not_ended;
           polling = polled_answered z v.position by q call reply address epoch is g'.paused (word Phase)
-              (word Want) v.polled v.target v.log a.polling;
+              (word Want) v.polled v.target v.log a.polling (due_behind q b);
           owners = owners_at z v.position by q (word Phase) v.own a.owners (λ _. in_behind q b);
           stopped = stopped_at z v.position by q (word Phase) (λ c. (v.rest c).collecting.counted) a.stopped
               (λ _ _. subst (λ p. IsInOrLeaving p) (sym is) tt);
           wanted = wanted_said z (word Phase) (word Want) (v.rest z.sizes.threads).collecting.wanted v.target v.log by entry_now a.wanted;
+          working = a.working;
           framed = a.framed;
           housed = a.housed;
           handed = a.handed;

@@ -314,6 +314,7 @@ module _ (z : Ground) (good : IsGoodGround z) (s : State) (by : ℕ) (less : by 
     owners = rule.stands.owners;
     stopped = rule.stands.stopped;
     wanted = rule.stands.wanted;
+    working = rule.stands.working;
     framed = rule.stands.framed;
     housed = subst (λ (h : ℕ → Shape). Housed z.sizes (IsFilled z.sizes (g.born + 1) h (upd side at mark)) (λ i. s.word (Frame i)) s.page) sh
         (housed_born z g S new refl clear_of side mark marked no_extra V.taken by may.cell may.is_cell cell_is good in_frame.0 in_frame.1

@@ -48,7 +48,8 @@ module _ (z : Ground) (s : State) (g : Graph) (rule : RuleOf z g s.word s.page (
             })
             (λ _. tt)
             (record { each = λ c p o l h. owner c p o (rule.stands.owners.each c p o l h) })
-            (λ h. absurd h),
+            (λ h. absurd h)
+            (λ l. absurd (omega (arith, is, l))),
       )
     where
       owner : (c p : ℕ) (o : Open) → MayOwn z (s.word Phase) V.position c → MayOwn z (s.word Phase) (upd V.position by Ended) c

@@ -28,7 +28,7 @@ use Rattle.kn_rule.specs.Views.{View, Views, State, views_of}
 use Rattle.kn_rule.specs.Steps.{Found, entry_of}
 use Rattle.kn_rule.specs.HistoryClauses.{under_way, births_under_way, Told}
 use Rattle.kn_rule.specs.ObjectClauses.{IsReadAt, IsWriting}
-use Rattle.kn_rule.specs.CallerClauses.{state_number, IsIn, IsBusy, IsSince, IsTarget, Polled, Stopped, IsTargetOf, targets_had}
+use Rattle.kn_rule.specs.CallerClauses.{state_number, IsIn, IsBusy, IsSince, IsTarget, Polled, Stopped, IsTargetOf, targets_had, IsDue}
 use Rattle.kn_rule.specs.Rule.{RuleOf}
 use Rattle.kn_keep_heap.specs.Answered.{IsIdle}
 use Rattle.kn_keep_heap.proofs.Changed.{upd_case3, some_is}
@@ -38,7 +38,7 @@ use Rattle.kn_keep_heap.proofs.Loads.{put_same}
 use Rattle.kn_keep_heap.proofs.Locals.{locals_moved}
 use Rattle.kn_keep_heap.proofs.Positions.{formed_at, at_end_at, stated_at, owners_at, cleared_at, apart_at, taken_in_at, log_said}
 use Rattle.kn_keep_heap.proofs.Idle.{idle_calls, idle_births, not_writing, not_asking, none_asked}
-use Rattle.kn_keep_heap.proofs.Wants.{wanted_more}
+use Rattle.kn_keep_heap.proofs.Wants.{wanted_more, collects_more}
 
 module _ (z : Ground) (s : State) (by : ℕ) (less : by < z.sizes.threads) (g : Graph) (rule : RuleOf z g s.word s.page
     (views_of s.caller) s.history) where
@@ -122,6 +122,8 @@ module _ (z : Ground) (s : State) (by : ℕ) (less : by < z.sizes.threads) (g : 
           V.position V.polled by Between w (λ _ _. since) c (λ _ l i. rule.stands.polling.since c l i) l i;
       untargeted = λ c l i. upd_case2 (λ k x t. k < z.sizes.threads → IsBusy x → t ≡ None) V.position V.target by Between None
           (λ _ _. refl) c (λ _ l i. rule.stands.polling.untargeted c l i) l i;
+      due = λ c l. upd_case2 (λ k x t. k < z.sizes.threads → IsDue x t) V.position V.target by Between None (λ _. tt) c
+          (λ _ l. rule.stands.polling.due c l) l;
       targets = λ c l. upd_case2 (λ k t (x : List Entry). k < z.sizes.threads → IsTarget g.paused (s.word Want) t x)
           V.target V.log by None (V.log by ++ entry ∷ []) (λ _. tt) c (λ _ l. rule.stands.polling.targets c l) l;
     }
@@ -134,8 +136,7 @@ module _ (z : Ground) (s : State) (by : ℕ) (less : by < z.sizes.threads) (g : 
 
     had : (t : Option ℕ) → t ≡ Some n → targets_had t (V.log by) ≤ targets_had None (V.log by ++ entry ∷ [])
     had t is =
-        let more : length (calls_of (V.log by ++ entry ∷ [])) ≡ length (calls_of (V.log by)) + 1 =
-        ap length (calls_of-append (V.log by) entry) ∙ length-append (calls_of (V.log by)) (Collect ∷ []) in
+        let more = collects_more (V.log by) entry in
         let old = ap (λ t. targets_had t (V.log by)) is in omega (arith, more, old)
 
     pub told_rule : RuleOf z (with_entered g by epoch) (put s.word Phase f.word) s.page (views_of (upd s.caller by told_view))
@@ -188,6 +189,7 @@ module _ (z : Ground) (s : State) (by : ℕ) (less : by < z.sizes.threads) (g : 
                 (V.log by ++ entry ∷ []) (target_told e (V.target by) target) c (λ _ h. h))
                 (λ c l. upd_case2 (λ k t x. targets_had (V.target k) (V.log k) ≤ targets_had t x) V.target V.log by None
                 (V.log by ++ entry ∷ []) (had (V.target by) target) c (λ _. omega arith));
+            working = rule.stands.working;
             framed = rule.stands.framed;
             housed = rule.stands.housed;
             handed = rule.stands.handed;

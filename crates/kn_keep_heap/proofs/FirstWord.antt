@@ -258,6 +258,7 @@ module _ (z : Ground) (good : IsGoodGround z) (s : State) (by : ℕ) (less : by 
                   owners = owners_same V.own by may.frame may.hold new_open may.owned refl z (s.word Phase) V.position rule.stands.owners;
                   stopped = rule.stands.stopped;
                   wanted = rule.stands.wanted;
+                  working = rule.stands.working;
                   framed = framed_same V.own by may.frame may.hold new_open may.owned refl (callers z.sizes) (frame_count z.sizes)
                       (λ p. s.word (Frame p)) rule.stands.framed;
                   housed = rule.stands.housed;

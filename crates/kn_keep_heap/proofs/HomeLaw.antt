@@ -174,6 +174,7 @@ module _ (z : Ground) (s : State) (by : ℕ) (less : by < z.sizes.threads) (g : 
           owners = owners_home z V.own by k (s.word Phase) V.position rule.stands.owners;
           stopped = rule.stands.stopped;
           wanted = rule.stands.wanted;
+          working = rule.stands.working;
           framed = framed_home (callers z.sizes) (frame_count z.sizes) word V.own rule.stands.framed by k new_word n near
               (frame_packs new (in_range _ _)) hold owned
               (λ e. not_owned _ _ (ap (λ (v : FrameWord). v.kind) (sym back) ∙ e));

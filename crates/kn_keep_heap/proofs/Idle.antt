@@ -13,7 +13,7 @@ use Rattle.kn_rule.specs.Views.{View, Views, State, Open, views_of, owns}
 use Rattle.kn_rule.specs.Steps.{callers}
 use Rattle.kn_rule.specs.HistoryClauses.{under_way, births_under_way, IsRightCall}
 use Rattle.kn_rule.specs.ObjectClauses.{IsReadAt, IsCleared, IsWriting, IsValueDue, IsAskedBy}
-use Rattle.kn_rule.specs.CallerClauses.{state_number, IsIn, IsBusy, IsInOrLeaving, IsResting, MayOwn, Owners, AtEnd}
+use Rattle.kn_rule.specs.CallerClauses.{state_number, IsIn, IsBusy, IsInOrLeaving, IsResting, MayOwn, Owners, AtEnd, IsDue}
 use Rattle.kn_rule.specs.Rule.{RuleOf}
 use Rattle.kn_keep_heap.specs.Answered.{IsIdle}
 use Rattle.kn_keep_heap.proofs.Positions.{formed_at, at_end_at, cleared_at, apart_at, taken_in_at, polled_at, told_at}
@@ -73,8 +73,9 @@ module _ (z : Ground) (s : State) (by : ℕ) (near : by < callers z.sizes) (g : 
   pub stands_by : (q p : Position) (n : ℕ) → (s.caller by).position ≡ q → IsIdle q → IsIdle p → ¬ IsIn p → state_number p ≡ n →
       AtEnd z (upd V.position by p) (λ c. (V.rest c).collecting.ended) → (z.sizes.threads ≤ by → IsResting p) →
       Owners z (s.word Phase) (upd V.position by p) V.own → (IsInOrLeaving p → IsInOrLeaving q) →
+      (by < z.sizes.threads → IsDue p (s.caller by).target) →
       RuleOf z g (put s.word (StateOf by) n) s.page (views_of (upd s.caller by (record (s.caller by) { position = p }))) s.history
-  stands_by q p n at idle idle' out state at_end rests owners stays =
+  stands_by q p n at idle idle' out state at_end rests owners stays due =
       let u : View = record (s.caller by) { position = p } in
       let none = none_taken q at (not_asking z q idle) in
       let target = (s.caller by).target in
@@ -109,11 +110,12 @@ module _ (z : Ground) (s : State) (by : ℕ) (near : by < callers z.sizes) (g : 
           };
           at_end = at_end;
           polling = polled_at z V.position by p g.paused (s.word Phase) (s.word Want) V.polled V.target V.log rule.stands.polling
-              (λ h. absurd (out h)) (λ h. absurd (out (busy_in p h)));
+              (λ h. absurd (out h)) (λ h. absurd (out (busy_in p h))) due;
           owners = owners;
           stopped = stopped_at z V.position by p (s.word Phase) (λ c. (V.rest c).collecting.counted) rule.stands.stopped
               (λ _ h. subst (λ x. IsInOrLeaving x) (sym at) (stays h));
           wanted = rule.stands.wanted;
+          working = rule.stands.working;
           framed = rule.stands.framed;
           housed = rule.stands.housed;
           handed = rule.stands.handed;
@@ -138,12 +140,12 @@ module _ (z : Ground) (s : State) (by : ℕ) (less : by < z.sizes.threads) (g : 
   -- a mutator with nothing under way that has not ended does so
   pub idle_moved : (q p : Position) (n : ℕ) → (s.caller by).position ≡ q → IsIdle q → q ≢ Ended → IsIdle p → ¬ IsIn p →
       state_number p ≡ n →
-      Owners z (s.word Phase) (upd U.position by p) U.own → (IsInOrLeaving p → IsInOrLeaving q) →
+      Owners z (s.word Phase) (upd U.position by p) U.own → (IsInOrLeaving p → IsInOrLeaving q) → IsDue p (s.caller by).target →
       RuleOf z g (put s.word (StateOf by) n) s.page (views_of (upd s.caller by (record (s.caller by) { position = p }))) s.history
-  idle_moved q p n at idle going idle' out state owners stays =
+  idle_moved q p n at idle going idle' out state owners stays due =
       stands_by z s by (omega (arith, less)) g rule q p n at idle idle' out state
       (at_end_at z U.position by p (λ c. (U.rest c).collecting.ended) rule.stands.at_end less (λ e. going (sym at ∙ e)))
-      (λ l. absurd (omega (arith, less, l))) owners stays
+      (λ l. absurd (omega (arith, less, l))) owners stays (λ _. due)
 
   -- where a caller that owns no frame stands elsewhere
   pub owners_gone : (p : Position) → ((j : ℕ) → owns (s.caller by) j ≡ None) → Owners z (s.word Phase) (upd U.position by p) U.own

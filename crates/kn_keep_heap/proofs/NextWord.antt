@@ -79,6 +79,7 @@ module _ (z : Ground) (s : State) (by : ℕ) (less : by < z.sizes.threads) (g : 
                 owners = rule.stands.owners;
                 stopped = rule.stands.stopped;
                 wanted = rule.stands.wanted;
+                working = rule.stands.working;
                 framed = rule.stands.framed;
                 housed = rule.stands.housed;
                 handed = handed_more z g.born (shapes g) V.position V.taken by t has (t.cleared + 1) (omega arith)

@@ -35,7 +35,7 @@ use Rattle.kn_rule.specs.Allowed.{MayBegin, MayNext, MayEnterFor, MayPollAt, May
 use Rattle.kn_rule.specs.Moves.{stepped_by}
 use Rattle.kn_rule.specs.HistoryClauses.{under_way, births_under_way, IsRightCall, Told}
 use Rattle.kn_rule.specs.ObjectClauses.{IsReadAt, IsReadFor, IsCleared, IsWriting, IsValueDue, address_of}
-use Rattle.kn_rule.specs.CallerClauses.{state_number, IsSince, IsIn, IsBusy, IsInOrLeaving, Stopped}
+use Rattle.kn_rule.specs.CallerClauses.{state_number, IsSince, IsIn, IsBusy, IsInOrLeaving, Stopped, IsDue}
 use Rattle.kn_rule.specs.Rule.{Rule, RuleOf}
 use Rattle.kn_keep_heap.specs.Answered.{IsIdle}
 use Rattle.kn_keep_heap.proofs.Changed.{some_is}
@@ -151,7 +151,7 @@ module _ (z : Ground) (s : State) (by : ℕ) (less : by < z.sizes.threads) (g : 
     module _ (p : Position) (header : Option ℕ) (seen : List (Option ℕ)) (refused : List Bool) (calls births : ℕ)
         (right : IsRightCall z p) (state' : state_number p ≡ 1) (own : IsInOrLeaving p) (due : IsValueDue p (V.local by))
         (read : IsReadAt (shapes g) (g.local by) p header) (clear : IsCleared z (λ b. s.word (Body b)) (V.local by) p None)
-        (calls_are : under_way p t + V.calls by ≡ calls + under_way Out t) (free : IsBusy p → t ≡ None)
+        (calls_are : under_way p t + V.calls by ≡ calls + under_way Out t) (free : IsBusy p → t ≡ None) (is_due : IsDue p t)
         (births_are : births_under_way p + V.births by ≡ births)
         (calls_fit : calls ≤ slice_index z.sizes.calls by) (births_fit : births ≤ slice_index z.sizes.births by) where
       poll_told : Told z g s.history V.log (upd V.position by p) V.target (upd V.calls by calls) (upd V.births by births)
@@ -226,12 +226,15 @@ module _ (z : Ground) (s : State) (by : ℕ) (less : by < z.sizes.threads) (g : 
                     (λ _ _. since_now) c (λ _ l i. rule.stands.polling.since c l i) l i;
                 untargeted = λ c l i. upd_case (λ k x. k < z.sizes.threads → IsBusy x → V.target k ≡ None) V.position by p
                     (λ _ i. target ∙ free i) c (λ _ l i. rule.stands.polling.untargeted c l i) l i;
+                due = λ c l. upd_case (λ k x. k < z.sizes.threads → IsDue x (V.target k)) V.position by p
+                    (λ _. subst (λ x. IsDue p x) (sym target) is_due) c (λ _ l. rule.stands.polling.due c l) l;
                 targets = rule.stands.polling.targets;
               };
               owners = owners_at z V.position by p (s.word Phase) V.own rule.stands.owners (λ _. own);
               stopped = stopped_run z (s.word Phase) (upd V.position by p) (λ c. (V.rest c).collecting.counted)
                   (subst (λ x. is_run (phase_of x).code ≡ true) (sym found) run);
               wanted = rule.stands.wanted;
+              working = rule.stands.working;
               framed = rule.stands.framed;
               housed = rule.stands.housed;
               handed = rule.stands.handed;
@@ -242,13 +245,13 @@ module _ (z : Ground) (s : State) (by : ℕ) (less : by < z.sizes.threads) (g : 
           }))
 
     -- it goes on waiting
-    still_waiting : (next : Option Call) →
+    still_waiting : IsDue Waiting t → (next : Option Call) →
         Rule z (stepped_by s by (does K1 Phase (LoadsFor next)) f (waits_on z by (s.caller by) Phase (LoadsFor next) f))
-    still_waiting next =
+    still_waiting due next =
         let me = s.caller by in
         let same = idle_calls Waiting t tt in (
           g,
-          poll_rule Waiting me.header me.seen me.refused me.calls me.births tt refl tt tt tt tt (omega (arith, same)) (λ h. absurd h)
+          poll_rule Waiting me.header me.seen me.refused me.calls me.births tt refl tt tt tt tt (omega (arith, same)) (λ h. absurd h) due
               (omega arith) (rule.told.calls_fit by less) (rule.told.births_fit by less),
         )
 
@@ -267,7 +270,7 @@ module _ (z : Ground) (s : State) (by : ℕ) (less : by < z.sizes.threads) (g : 
           let me = s.caller by in
           let same = idle_calls Between t tt in (
             g,
-            poll_rule Between me.header me.seen me.refused me.calls me.births tt refl tt tt tt tt (omega (arith, same)) (λ _. free)
+            poll_rule Between me.header me.seen me.refused me.calls me.births tt refl tt tt tt tt (omega (arith, same)) (λ _. free) tt
                 (omega arith) (rule.told.calls_fit by less) (rule.told.births_fit by less),
           )
 
@@ -285,7 +288,7 @@ module _ (z : Ground) (s : State) (by : ℕ) (less : by < z.sizes.threads) (g : 
             let left = may.call_left in
             let none = ap (under_way Out) free in
             poll_rule (Calling call) None u.seen u.refused u.calls u.births (may.built, may.in_range) refl tt tt (none_read (field_of call)) tt
-            (omega (arith, none)) (λ _. free) (omega arith) (omega arith) (births_ok (makes_object call) refl)
+            (omega (arith, none)) (λ _. free) tt (omega arith) (omega arith) (births_ok (makes_object call) refl)
 
         call_begun : (x : Option Reply) → view_answer z (s.caller by) call ≡ x →
             Rule z (stepped_by s by (does K1 Phase (LoadsFor (Some call))) f (begin_with z by (s.caller by) Phase (LoadsFor (Some call)) f call x))
@@ -321,7 +324,7 @@ module _ (z : Ground) (s : State) (by : ℕ) (less : by < z.sizes.threads) (g : 
           g,
           subst (λ x. RuleOf z g x s.page (views_of (upd s.caller by u)) s.history)
               (put_same s.word (StateOf by) 1 one ∙ sym (put_same s.word Phase f.word (sym found)))
-              (idle_moved z s by less g rule q Leaving 1 at idle going tt (λ h. h) refl owners (λ _. in_leaves q isin)),
+              (idle_moved z s by less g rule q Leaving 1 at idle going tt (λ h. h) refl owners (λ _. in_leaves q isin) tt),
         )
 
     -- a mutator that waits for an epoch, and finds it done
@@ -350,7 +353,7 @@ module _ (z : Ground) (s : State) (by : ℕ) (less : by < z.sizes.threads) (g : 
         (waits_on z by (s.caller by) Phase (LoadsFor next) f)))
     waited next q at idle state run n target true e =
         told_at_once next q at idle state n target (leb-true n (last_done (phase_of f.word)) e) f.word (run_polled run) (run_stops run)
-    waited next q at idle state run n target false e = still_waiting q at idle state (Some n) target f found run next
+    waited next q at idle state run n target false e = still_waiting q at idle state (Some n) target f found run tt next
 
     entering_for : (next : Option Call) → (s.caller by).position ≡ Entering → is_run (phase_of f.word).code ≡ true → (t : Option ℕ) →
         (s.caller by).target ≡ t → MayEnterFor z by (s.caller by) here t next →
@@ -409,31 +412,31 @@ module _ (z : Ground) (s : State) (by : ℕ) (less : by < z.sizes.threads) (g : 
         subst (λ n. Stored n) (sym e) (
           g,
           idle_moved z s by less g rule Out Entering 1 at tt (λ e. cc) tt (λ h. h) refl
-              (owners_gone z s by less g rule Entering none) (λ h. absurd h),
+              (owners_gone z s by less g rule Entering none) (λ h. absurd h) tt,
         )
     state_kept n Out at (inr e) =
         let none = none_out z s by less g rule Out at (λ h. h) in
         subst (λ n. Stored n) (sym e.0) (
           g,
           idle_moved z s by less g rule Out Ended 2 at tt (λ e. cc) tt (λ h. h) refl
-              (owners_gone z s by less g rule Ended none) (λ h. absurd h),
+              (owners_gone z s by less g rule Ended none) (λ h. absurd h) (subst (λ t. IsDue Ended t) (sym e.1.0) tt),
         )
     state_kept n Entering at m =
         subst (λ n. Stored n) (sym m.0) (
           g,
           idle_moved z s by less g rule Entering Out 0 at tt (λ e. cc) tt (λ h. h) refl
-              (owners_gone z s by less g rule Out m.1) (λ h. absurd h),
+              (owners_gone z s by less g rule Out m.1) (λ h. absurd h) tt,
         )
     state_kept n Leaving at m =
         subst (λ n. Stored n) (sym m.0) (
           g,
           idle_moved z s by less g rule Leaving Out 0 at tt (λ e. cc) tt (λ h. h) refl
-              (owners_gone z s by less g rule Out m.1) (λ h. absurd h),
+              (owners_gone z s by less g rule Out m.1) (λ h. absurd h) tt,
         )
     state_kept n Between at m =
         subst (λ n. Stored n) (sym m.0) (
           g,
           idle_moved z s by less g rule Between Ended 2 at tt (λ e. cc) tt (λ h. h) refl
-              (owners_gone z s by less g rule Ended m.1.2) (λ h. absurd h),
+              (owners_gone z s by less g rule Ended m.1.2) (λ h. absurd h) (subst (λ t. IsDue Ended t) (sym m.1.0) tt),
         )
     state_kept n _ at m = absurd m

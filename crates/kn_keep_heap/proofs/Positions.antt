@@ -24,7 +24,7 @@ use Rattle.kn_rule.specs.Requests.{words_asked, IsCellOf}
 use Rattle.kn_rule.specs.Steps.{entry_of, callers}
 use Rattle.kn_rule.specs.HistoryClauses.{Told, under_way, births_under_way, IsRightCall, Formed}
 use Rattle.kn_rule.specs.ObjectClauses.{IsReadAt, ReadRight, IsCleared, Cleared, IsAskedBy, Apart}
-use Rattle.kn_rule.specs.CallerClauses.{state_number, Stated, AtEnd, IsIn, IsBusy, IsInOrLeaving, IsResting, IsSince, IsTarget, Polled, MayOwn}
+use Rattle.kn_rule.specs.CallerClauses.{state_number, Stated, AtEnd, IsIn, IsBusy, IsInOrLeaving, IsResting, IsSince, IsTarget, IsDue, Polled, MayOwn}
 use Rattle.kn_rule.specs.CallerClauses.{Owners}
 use Rattle.kn_rule.specs.FrameClauses.{IsClassAsked, TakenIn}
 use Rattle.kn_rule.specs.Decoding.{frame_of}
@@ -123,12 +123,14 @@ module _ (z : Ground) (position : ℕ → Position) (by : ℕ) (q : Position) wh
   -- a step that says nothing
   pub polled_at : (paused phase want : ℕ) (polled : ℕ → ℕ) (target : ℕ → Option ℕ) (log : ℕ → List Entry) →
       Polled z paused phase want position polled target log → (IsIn q → IsIn (position by)) → (IsBusy q → IsBusy (position by)) →
+      (by < z.sizes.threads → IsDue q (target by)) →
       Polled z paused phase want (upd position by q) polled target log
-  polled_at paused phase want polled target log r f g = record {
+  polled_at paused phase want polled target log r f g d = record {
     since = λ c l i. upd_case (λ k p. k < z.sizes.threads → IsIn p → IsSince (phase_of (polled k)) (phase_of phase)) position by q
         (λ l i. r.since by l (f i)) c (λ _ l i. r.since c l i) l i;
     untargeted = λ c l i. upd_case (λ k p. k < z.sizes.threads → IsBusy p → target k ≡ None) position by q
         (λ l i. r.untargeted by l (g i)) c (λ _ l i. r.untargeted c l i) l i;
+    due = λ c l. upd_case (λ k p. k < z.sizes.threads → IsDue p (target k)) position by q d c (λ _ l. r.due c l) l;
     targets = r.targets;
   }
 
@@ -177,9 +179,9 @@ module _ (z : Ground) (position : ℕ → Position) (by : ℕ) (q : Position) wh
     }
 
     pub polled_answered : (paused phase want : ℕ) (polled : ℕ → ℕ) (target : ℕ → Option ℕ) (log : ℕ → List Entry) →
-        Polled z paused phase want position polled target log →
+        Polled z paused phase want position polled target log → ((t : Option ℕ) → IsDue q t) →
         Polled z paused phase want (upd position by q) polled target (upd log by (log by ++ entry ∷ []))
-    polled_answered paused phase want polled target log r =
+    polled_answered paused phase want polled target log r d =
         let isin : IsIn (position by) = subst (λ p. IsIn p) (sym is) tt in
         let busy : IsBusy (position by) = subst (λ p. IsBusy p) (sym is) tt in
         record {
@@ -187,6 +189,7 @@ module _ (z : Ground) (position : ℕ → Position) (by : ℕ) (q : Position) wh
               (λ l i. r.since by l isin) c (λ _ l i. r.since c l i) l i;
           untargeted = λ c l i. upd_case (λ k p. k < z.sizes.threads → IsBusy p → target k ≡ None) position by q
               (λ l i. r.untargeted by l busy) c (λ _ l i. r.untargeted c l i) l i;
+          due = λ c l. upd_case (λ k p. k < z.sizes.threads → IsDue p (target k)) position by q (λ _. d (target by)) c (λ _ l. r.due c l) l;
           targets = λ c l. upd_case (λ k (x : List Entry). k < z.sizes.threads → IsTarget paused want (target k) x) log by (log by ++ entry ∷ [])
               (λ l. subst (λ x. IsTarget paused want x (log by ++ entry ∷ [])) (sym (r.untargeted by l busy)) tt) c (λ _ l. r.targets c l) l;
         }

@@ -7,7 +7,7 @@ use Rattle.std.specs.Prelude.{IsTrue}
 use Rattle.std.proofs.lemmas.Bool.Decides.{eqb_tells}
 use Rattle.kn_base.specs.declared.numbers.Span.{Span}
 use Rattle.kn_base.specs.declared.places.Place.{Place}
-use Rattle.kn_base.specs.declared.places.Place.TheVariants.{Phase, Want, Frame, Side}
+use Rattle.kn_base.specs.declared.places.Place.TheVariants.{Phase, Want, Pending, Frame, Side}
 use Rattle.kn_base.specs.declared.kinds.FrameKind.{FrameKind}
 use Rattle.kn_base.specs.declared.kinds.FrameKind.TheVariants as frames
 use Rattle.kn_base.specs.declared.frame_word.FrameWord.{FrameWord}
@@ -36,7 +36,7 @@ use Rattle.kn_rule.specs.Outcomes.{sweep_begun, looked_at, full_if, claimed_if}
 use Rattle.kn_rule.specs.Allowed.{Searches}
 use Rattle.kn_rule.specs.Moves.{stepped_by}
 use Rattle.kn_rule.specs.HistoryClauses.{Timed}
-use Rattle.kn_rule.specs.CallerClauses.{IsInOrLeaving, AtEnd, Stopped, Wanted}
+use Rattle.kn_rule.specs.CallerClauses.{IsInOrLeaving, AtEnd, Stopped, Wanted, Working}
 use Rattle.kn_rule.specs.FrameClauses.{IsFilled, HomePage}
 use Rattle.kn_rule.specs.Rule.{Rule, RuleOf}
 use Rattle.kn_rule.proofs.Decodings.{frame_packed, frame_packs}
@@ -278,6 +278,8 @@ module _ (z : Ground) (good : IsGoodGround z) (s : State) (by : ℕ) (less : by 
                   rule.stands.stopped;
               wanted = subst (λ (x : ℕ → Collecting). Wanted z (s.word Phase) (s.word Want) V.target V.log (x z.sizes.threads).wanted)
                   collecting_stays rule.stands.wanted;
+              working = subst (λ (x : ℕ → Collecting). Working z (s.word Phase) (s.word Pending) (x z.sizes.threads).over) collecting_stays
+                  rule.stands.working;
               framed = framed_claim (callers z.sizes) (frame_count z.sizes) word V.own rule.stands.framed by k new_word n may.near
                   (frame_packs new new_ok)
                   new_open refl not_owned owned_kind (ap (λ (v : FrameWord). v.seat) back ∙ seat_mine (frame_of old).kind);

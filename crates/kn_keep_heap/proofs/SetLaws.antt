@@ -70,6 +70,7 @@ module _ (z : Ground) (s : State) (by : ℕ) (less : by < z.sizes.threads) (here
           owners = rule.stands.owners;
           stopped = rule.stands.stopped;
           wanted = rule.stands.wanted;
+          working = rule.stands.working;
           framed = rule.stands.framed;
           housed = subst (λ (h : ℕ → Shape). Housed z.sizes (IsFilled z.sizes g.born h side) (λ p. s.word (Frame p)) s.page) sh rule.stands.housed;
           handed = subst (λ (h : ℕ → Shape). Handed z.sizes (callers z.sizes) (IsFilled z.sizes g.born h side) V.own V.taken

@@ -33,7 +33,7 @@ use Rattle.kn_keep_heap.proofs.Locals.{local_stored, local_written, locals_moved
 use Rattle.kn_keep_heap.proofs.Positions.{formed_at, at_end_at, stated_at, owners_at, cleared_at, apart_at, taken_in_at, polled_at, told_at, read_at}
 use Rattle.kn_keep_heap.proofs.Idle.{none_asked}
 use Rattle.kn_keep_heap.proofs.Wants.{stopped_at}
-use Rattle.kn_keep_heap.proofs.Answers.{epoch_call, answered, state_behind, calls_behind, births_behind, right_behind, in_behind, cleared_behind}
+use Rattle.kn_keep_heap.proofs.Answers.{epoch_call, answered, state_behind, calls_behind, births_behind, right_behind, in_behind, cleared_behind, due_behind}
 use Rattle.kn_keep_heap.proofs.ReadLaws.{views_plain, ranges, cell_none, quiet, read_plain}
 use Rattle.kn_keep_heap.proofs.Values.{below_sixteen}
 
@@ -83,11 +83,12 @@ module _ (z : Ground) (s : State) (by : ℕ) (less : by < z.sizes.threads) (here
                 at_end = at_end_at z V.position by q (λ c. (V.rest c).collecting.ended) rule.stands.at_end less
                     (λ e. let x : Writing r w n ≡ Ended = sym is ∙ e in absurd (cc));
                 polling = polled_at z V.position by q g.paused (s.word Phase) (s.word Want) V.polled V.target V.log rule.stands.polling
-                    (λ _. subst (λ p. IsIn p) (sym is) tt) (λ _. busy);
+                    (λ _. subst (λ p. IsIn p) (sym is) tt) (λ _. busy) (λ _. due_behind q behind (V.target by));
                 owners = owners_at z V.position by q (s.word Phase) V.own rule.stands.owners (λ _. in_behind q behind);
                 stopped = stopped_at z V.position by q (s.word Phase) (λ c. (V.rest c).collecting.counted) rule.stands.stopped
                     (λ _ _. subst (λ p. IsInOrLeaving p) (sym is) tt);
                 wanted = rule.stands.wanted;
+                working = rule.stands.working;
                 framed = rule.stands.framed;
                 housed = rule.stands.housed;
                 handed = rule.stands.handed;
@@ -188,6 +189,7 @@ module _ (z : Ground) (s : State) (by : ℕ) (less : by < z.sizes.threads) (here
         owners = rule.stands.owners;
         stopped = rule.stands.stopped;
         wanted = rule.stands.wanted;
+        working = rule.stands.working;
         framed = rule.stands.framed;
         housed = rule.stands.housed;
         handed = rule.stands.handed;

@@ -1,17 +1,15 @@
 -- The clauses on stops and on the epoch wanted, where one caller's part changes.
 use Rattle.std.proofs.Common.{◌≡◌, ℕ, zero, suc, ◌+◌, ◌<◌, ◌≤◌, inl, inr, Bool, true, List, [], ◌∷◌, ◌++◌, length}
 use Rattle.std.proofs.Common.{Option, Some, None, slice_get}
-use Rattle.std.proofs.Common.{slice_index, sum, refl, subst, ap, ◌∙◌, arith, length-append}
+use Rattle.std.proofs.Common.{slice_index, sum, count_by, cond, refl, subst, ap, ◌∙◌, arith}
 use Rattle.std.proofs.lemmas.Bool.Decides.{eqb_tells}
-use Rattle.std.proofs.lemmas.List.Sums.{sum_by-cons}
+use Rattle.std.proofs.lemmas.List.Sums.{sum_by-cons, sum_by-append, count_by-le-length}
 use Rattle.std.proofs.lemmas.List.Elements.{Contains-append_left}
 use Rattle.kn_base.specs.declared.kinds.Code.{Code}
 use Rattle.kn_base.specs.declared.kinds.Code.TheVariants as codes
 use Rattle.kn_base.specs.Functions.{upd, Tells}
 use Rattle.kn_base.proofs.Updates.{upd_case}
 use Rattle.kn_graph.specs.declared.entries.Entry.{Entry}
-use Rattle.kn_graph.specs.declared.entries.Event.{Event}
-use Rattle.kn_graph.specs.declared.entries.Event.TheVariants as events
 use Rattle.kn_graph.specs.Ground.{Ground, IsGoodGround}
 use Rattle.kn_graph.specs.Graph.{Graph}
 use Rattle.kn_graph.specs.Logs.{call_in, calls_of}
@@ -21,7 +19,7 @@ use Rattle.kn_rule.specs.declared.positions.Position.TheVariants.{Calling}
 use Rattle.kn_rule.specs.Decoding.{phase_of}
 use Rattle.kn_rule.specs.Phases.{is_run, is_stop}
 use Rattle.kn_rule.specs.HistoryClauses.{Told, under_way}
-use Rattle.kn_rule.specs.CallerClauses.{IsInOrLeaving, IsStill, Stopped, IsTargetOf, targets_had, Wanted}
+use Rattle.kn_rule.specs.CallerClauses.{IsInOrLeaving, IsStill, Stopped, IsTargetOf, is_collect, targets_had, Wanted}
 use Rattle.kn_rule.specs.Totals.{total}
 
 -- a run phase is no stop, and callers do not stand still in it
@@ -82,19 +80,15 @@ target_kept : (e : ℕ) (t : Option ℕ) (log more : List Entry) → IsTargetOf 
 target_kept e t log more (inl h) = inl h
 target_kept e t log more (inr h) = inr (h.0, Contains-append_left log more h.0 h.1, h.2)
 
-one_call : (e : Event) → length (call_in e) ≤ 1
-one_call (events.Call call reply address) = omega arith
-one_call _ = omega arith
+-- one entry more adds the `gc` that it answers, if it does
+pub collects_more : (log : List Entry) (entry : Entry) →
+    count_by is_collect (calls_of (log ++ entry ∷ [])) ≡ count_by is_collect (calls_of log) + count_by is_collect (call_in entry.what)
+collects_more log entry =
+    ap (count_by is_collect) (calls_of-append log entry) ∙ sum_by-append (λ call. cond (is_collect call) 1 0) (calls_of log) (call_in entry.what)
 
 had_more : (t : Option ℕ) (log : List Entry) (entry : Entry) → targets_had t log ≤ targets_had t (log ++ entry ∷ [])
-had_more t log entry = at t
-  where
-    longer : length (calls_of (log ++ entry ∷ [])) ≡ length (calls_of log) + length (call_in entry.what)
-    longer = ap length (calls_of-append log entry) ∙ length-append (calls_of log) (call_in entry.what)
-
-    at : (t : Option ℕ) → targets_had t log ≤ targets_had t (log ++ entry ∷ [])
-    at None = omega (arith, longer)
-    at (Some n) = omega (arith, longer)
+had_more None log entry = let more = collects_more log entry in omega (arith, more)
+had_more (Some n) log entry = let more = collects_more log entry in omega (arith, more)
 
 -- a caller's log gets one entry more
 pub wanted_said : (z : Ground) (phase want loaded : ℕ) (target : ℕ → Option ℕ) (log : ℕ → List Entry) (by : ℕ) (entry : Entry) →
@@ -143,8 +137,8 @@ under_some (Calling call) n = refl
 under_some _ n = refl
 
 had_few : (q : Position) (t : Option ℕ) (log : List Entry) (calls : ℕ) → length (calls_of log) + under_way q t ≡ calls → targets_had t log ≤ calls
-had_few q None log calls e = omega (arith, e)
-had_few q (Some n) log calls e = let one = under_some q n in omega (arith, e, one)
+had_few q None log calls e = let few = count_by-le-length is_collect (calls_of log) in omega (arith, e, few)
+had_few q (Some n) log calls e = let few = count_by-le-length is_collect (calls_of log) in let one = under_some q n in omega (arith, e, one, few)
 
 -- no more epochs are wanted than there are calls
 pub want_few : (z : Ground) (g : Graph) (h : List Entry) (log : ℕ → List Entry) (position : ℕ → Position) (target : ℕ → Option ℕ)

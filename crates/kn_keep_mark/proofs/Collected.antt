@@ -1,6 +1,6 @@
 -- What the clauses say where the collector's part changes.
 use Rattle.std.proofs.Common.{◌≡◌, ℕ, ◌≤◌, true, List, Option, Some, slice_get, refl, sym, subst, ap, ◌∙◌}
-use Rattle.kn_base.specs.declared.places.Place.TheVariants.{Phase, Want, State as StateOf, Global, Node, Frame, Side, Body}
+use Rattle.kn_base.specs.declared.places.Place.TheVariants.{Phase, Want, Pending, State as StateOf, Global, Node, Frame, Side, Body}
 use Rattle.kn_base.specs.Pages.{FrameView}
 use Rattle.kn_base.specs.Functions.{upd}
 use Rattle.kn_base.proofs.Updates.{upd_here, part_same}
@@ -12,7 +12,7 @@ use Rattle.kn_rule.specs.declared.parts.Taken.{Taken}
 use Rattle.kn_rule.specs.Places.{put}
 use Rattle.kn_rule.specs.Views.{View, Views, State, Open, Sweep, Rest, Collecting, views_of, rest_of}
 use Rattle.kn_rule.specs.HistoryClauses.{Timed}
-use Rattle.kn_rule.specs.CallerClauses.{AtEnd, Polled, Owners, Stopped, Wanted}
+use Rattle.kn_rule.specs.CallerClauses.{AtEnd, Polled, Owners, Stopped, Wanted, Working}
 use Rattle.kn_rule.specs.FrameClauses.{Handed, TakenIn, IsFilled}
 use Rattle.kn_rule.specs.Steps.{callers}
 use Rattle.kn_rule.specs.Rule.{Standing, RuleOf}
@@ -22,13 +22,13 @@ use Rattle.kn_keep_heap.proofs.Parts.{births_same, rest_put, width_same}
 
 -- the clauses, with another phase word and other parts that no sweep reads
 module _ (z : Ground) (paused done born : ℕ) (shape : ℕ → Shape) (points : ℕ → ℕ → Option ℕ) (number : ℕ → ℕ → ℕ)
-    (global stable weak back : ℕ → Option ℕ) (count : ℕ → ℕ) (phase want : ℕ) (state_word global_word node_word frame_word side body :
+    (global stable weak back : ℕ → Option ℕ) (count : ℕ → ℕ) (phase want pending : ℕ) (state_word global_word node_word frame_word side body :
     ℕ → ℕ)
     (page : ℕ → Option FrameView) (position : ℕ → Position) (polled : ℕ → ℕ) (target : ℕ → Option ℕ) (local : ℕ → ℕ → ℕ)
     (own : ℕ → ℕ → Option Open) (taken : ℕ → Option Taken) (log : ℕ → List Entry) (rest : ℕ → Rest)
-    (r : Standing z paused done born shape points number global stable weak back count phase want state_word global_word node_word frame_word
+    (r : Standing z paused done born shape points number global stable weak back count phase want pending state_word global_word node_word frame_word
     side body page position polled target local own taken log rest) where
-  pub stands_collected : (phase' : ℕ) (rest' : ℕ → Rest) →
+  pub stands_collected : (phase' pending' : ℕ) (rest' : ℕ → Rest) →
       ◌≡◌ {A = ℕ → Option Sweep} (λ c. (rest c).sweep) (λ c. (rest' c).sweep) →
       Timed paused done phase' (rest' z.sizes.threads).collecting.stored →
       Polled z paused phase' want position polled target log →
@@ -36,9 +36,10 @@ module _ (z : Ground) (paused done born : ℕ) (shape : ℕ → Shape) (points :
       AtEnd z position (λ c. (rest' c).collecting.ended) →
       Stopped z phase' position (λ c. (rest' c).collecting.counted) →
       Wanted z phase' want target log (rest' z.sizes.threads).collecting.wanted →
-      Standing z paused done born shape points number global stable weak back count phase' want state_word global_word node_word frame_word
+      Working z phase' pending' (rest' z.sizes.threads).collecting.over →
+      Standing z paused done born shape points number global stable weak back count phase' want pending' state_word global_word node_word frame_word
       side body page position polled target local own taken log rest'
-  stands_collected phase' rest' sweeps timed polling owners at_end stopped wanted = record {
+  stands_collected phase' pending' rest' sweeps timed polling owners at_end stopped wanted working = record {
     timed = timed;
     headed = r.headed;
     fielded = r.fielded;
@@ -52,6 +53,7 @@ module _ (z : Ground) (paused done born : ℕ) (shape : ℕ → Shape) (points :
     owners = owners;
     stopped = stopped;
     wanted = wanted;
+    working = working;
     framed = r.framed;
     housed = r.housed;
     handed = subst (λ (x : ℕ → Option Sweep). Handed z.sizes (callers z.sizes) (IsFilled z.sizes born shape side) own taken x) sweeps r.handed;
@@ -95,44 +97,72 @@ module _ (z : Ground) (s : State) (g : Graph) (rule : RuleOf z g s.word s.page (
         width = width_same s.caller by v refl refl t;
       }
 
-  -- the phase is stored, and what is kept of it, of the mutators ended and counted, and of the epoch wanted is right for it
+  -- what is kept of the phase stored, of the mutators ended and counted, of the epoch wanted and of the marking is right for the phase
+  -- word w and the count n of open work
+  module _ (w n : ℕ) (timed : Timed g.paused g.done w part.stored) (polling : Polled z g.paused w (s.word Want) V.position V.polled V.target V.log)
+      (owners : Owners z w V.position V.own) (at_end : AtEnd z V.position (λ _. part.ended))
+      (stopped : Stopped z w V.position (λ _. part.counted)) (wanted : Wanted z w (s.word Want) V.target V.log part.wanted)
+      (working : Working z w n part.over) where
+    stands : Standing z g.paused g.done g.born (shapes g) (pointers g) (numbers g) g.global g.stable g.weak g.back g.count w (s.word Want) n
+        (λ c. s.word (StateOf c)) (λ i. s.word (Global i)) (λ k. s.word (Node k)) (λ p. s.word (Frame p)) (λ a. s.word (Side a))
+        (λ a. s.word (Body a)) s.page V.position V.polled V.target V.local V.own V.taken V.log rest_with
+    stands =
+        let back = sym part_is in
+        stands_collected z g.paused g.done g.born (shapes g) (pointers g) (numbers g) g.global g.stable g.weak g.back g.count
+        (s.word Phase) (s.word Want) (s.word Pending) (λ c. s.word (StateOf c)) (λ i. s.word (Global i)) (λ k. s.word (Node k))
+        (λ p. s.word (Frame p)) (λ a. s.word (Side a)) (λ a. s.word (Body a)) s.page V.position V.polled V.target V.local V.own V.taken V.log
+        V.rest rule.stands w n rest_with sweeps_stay
+        (subst (λ (x : Collecting). Timed g.paused g.done w x.stored) back timed)
+        polling owners
+        (record {
+          seen = λ i l e. at_end.seen i l (subst (λ (x : Collecting). slice_get x.ended i ≡ Some true) part_is e);
+          all = at_end.all;
+        })
+        (record {
+          still = stopped.still;
+          stopping = λ h i l e. stopped.stopping h i l (subst (λ (x : Collecting). slice_get x.counted i ≡ Some true) part_is e);
+        })
+        (subst (λ (x : Collecting). Wanted z w (s.word Want) V.target V.log x.wanted) back wanted)
+        (subst (λ (x : Collecting). Working z w n x.over) back working)
+
+  -- the phase is stored
   pub collected : (w : ℕ) → Timed g.paused g.done w part.stored → Polled z g.paused w (s.word Want) V.position V.polled V.target V.log →
       Owners z w V.position V.own → AtEnd z V.position (λ _. part.ended) → Stopped z w V.position (λ _. part.counted) →
-      Wanted z w (s.word Want) V.target V.log part.wanted →
+      Wanted z w (s.word Want) V.target V.log part.wanted → Working z w (s.word Pending) part.over →
       RuleOf z g (put s.word Phase w) s.page (views_of (upd s.caller by collector_view)) s.history
-  collected w timed polling owners at_end stopped wanted =
-      let back = sym part_is in
+  collected w timed polling owners at_end stopped wanted working =
       subst (λ W. RuleOf z g (put s.word Phase w) s.page W s.history) (sym views_with)
       (record {
         told = rule.told;
         formed = rule.formed;
         read_right = rule.read_right;
         localed = rule.localed;
-        stands = stands_collected z g.paused g.done g.born (shapes g) (pointers g) (numbers g) g.global g.stable g.weak g.back g.count
-            (s.word Phase) (s.word Want) (λ c. s.word (StateOf c)) (λ i. s.word (Global i)) (λ k. s.word (Node k)) (λ p. s.word (Frame p))
-            (λ a. s.word (Side a)) (λ a. s.word (Body a)) s.page V.position V.polled V.target V.local V.own V.taken V.log V.rest
-            rule.stands w rest_with sweeps_stay
-            (subst (λ (x : Collecting). Timed g.paused g.done w x.stored) back timed)
-            polling owners
-            (record {
-              seen = λ i l e. at_end.seen i l (subst (λ (x : Collecting). slice_get x.ended i ≡ Some true) part_is e);
-              all = at_end.all;
-            })
-            (record {
-              still = stopped.still;
-              stopping = λ h i l e. stopped.stopping h i l (subst (λ (x : Collecting). slice_get x.counted i ≡ Some true) part_is e);
-            })
-            (subst (λ (x : Collecting). Wanted z w (s.word Want) V.target V.log x.wanted) back wanted);
+        stands = stands w (s.word Pending) timed polling owners at_end stopped wanted working;
+      })
+
+  -- the count of open work is stored
+  pub collected_work : (n : ℕ) → part.stored ≡ (s.caller by).collecting.stored → AtEnd z V.position (λ _. part.ended) →
+      Stopped z (s.word Phase) V.position (λ _. part.counted) → part.wanted ≤ s.word Want → Working z (s.word Phase) n part.over →
+      RuleOf z g (put s.word Pending n) s.page (views_of (upd s.caller by collector_view)) s.history
+  collected_work n same at_end stopped few working =
+      let old = rule.stands.wanted in
+      subst (λ W. RuleOf z g (put s.word Pending n) s.page W s.history) (sym views_with)
+      (record {
+        told = rule.told;
+        formed = rule.formed;
+        read_right = rule.read_right;
+        localed = rule.localed;
+        stands = stands (s.word Phase) n
+            (subst (λ x. Timed g.paused g.done (s.word Phase) x) (sym (same ∙ ap (λ c. (s.caller c).collecting.stored) is)) rule.stands.timed)
+            rule.stands.polling rule.stands.owners at_end stopped
+            (record { reached = old.reached; known = few; targets = old.targets; few = old.few })
+            working;
       })
 
   -- no word that a clause reads is stored
   pub collected_still : part.stored ≡ (s.caller by).collecting.stored → AtEnd z V.position (λ _. part.ended) →
-      Stopped z (s.word Phase) V.position (λ _. part.counted) → part.wanted ≤ s.word Want →
+      Stopped z (s.word Phase) V.position (λ _. part.counted) → part.wanted ≤ s.word Want → Working z (s.word Phase) (s.word Pending) part.over →
       RuleOf z g s.word s.page (views_of (upd s.caller by collector_view)) s.history
-  collected_still same at_end stopped few =
-      let old = rule.stands.wanted in
-      subst (λ x. RuleOf z g x s.page (views_of (upd s.caller by collector_view)) s.history) (put_same s.word Phase (s.word Phase) refl)
-      (collected (s.word Phase)
-      (subst (λ n. Timed g.paused g.done (s.word Phase) n) (sym (same ∙ ap (λ c. (s.caller c).collecting.stored) is)) rule.stands.timed)
-      rule.stands.polling rule.stands.owners at_end stopped
-      (record { reached = old.reached; known = few; targets = old.targets; few = old.few }))
+  collected_still same at_end stopped few working =
+      subst (λ x. RuleOf z g x s.page (views_of (upd s.caller by collector_view)) s.history) (put_same s.word Pending (s.word Pending) refl)
+      (collected_work (s.word Pending) same at_end stopped few working)

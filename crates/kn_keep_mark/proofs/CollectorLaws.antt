@@ -20,9 +20,9 @@ use Rattle.kn_rule.specs.Places.{put}
 use Rattle.kn_rule.specs.Views.{Views, State, Collecting, views_of}
 use Rattle.kn_rule.specs.Steps.{Found, does, quietly}
 use Rattle.kn_rule.specs.Outcomes.{state_loaded, count_at, counted_from, phase_stored}
-use Rattle.kn_rule.specs.Allowed.{Collects, MayStop, MayMark}
+use Rattle.kn_rule.specs.Allowed.{Collects, MayStop, MayMark, MayBeginMarking}
 use Rattle.kn_rule.specs.Moves.{stepped_by}
-use Rattle.kn_rule.specs.CallerClauses.{state_number, IsIn, IsInOrLeaving, IsSince, IsStill, AtEnd, Stopped, MayOwn}
+use Rattle.kn_rule.specs.CallerClauses.{state_number, IsIn, IsInOrLeaving, IsSince, IsStill, AtEnd, Stopped, MayOwn, IsAtRest, Working}
 use Rattle.kn_rule.specs.Decoding.{phase_of}
 use Rattle.kn_rule.specs.Phases.{is_stop, pauses, last_done}
 use Rattle.kn_rule.proofs.Decodings.{phase_packed, phase_packs}
@@ -32,7 +32,7 @@ use Rattle.kn_keep_heap.proofs.Loads.{put_same}
 use Rattle.kn_keep_heap.proofs.Wants.{want_few}
 use Rattle.kn_keep_heap.proofs.PollLaws.{in_leaves}
 use Rattle.kn_keep_heap.proofs.EndLaw.{collector_part, collector_ends}
-use Rattle.kn_keep_mark.proofs.Collected.{collected, collected_still}
+use Rattle.kn_keep_mark.proofs.Collected.{collected, collected_work, collected_still}
 
 -- what was set is what is found there
 set_is : {A : Type 0} (l : List A) (k : ℕ) (x y : A) → slice_get (set l k x) k ≡ Some y → x ≡ y
@@ -67,6 +67,10 @@ module _ (z : Ground) (s : State) (g : Graph) (rule : RuleOf z g s.word s.page (
     stopping = λ h i l e. rule.stands.stopped.stopping h i l
         (ap (λ (x : Collecting). slice_get x.counted i) (collector_part z s by collects.collector) ∙ e);
   }
+
+  working_kept : Working z (s.word Phase) (s.word Pending) old.over
+  working_kept = subst (λ (x : Collecting). Working z (s.word Phase) (s.word Pending) x.over) (collector_part z s by collects.collector)
+      rule.stands.working
 
   known_kept : old.wanted ≤ s.word Want
   known_kept = subst (λ (x : Collecting). x.wanted ≤ s.word Want) (collector_part z s by collects.collector) rule.stands.wanted.known
@@ -117,7 +121,7 @@ module _ (z : Ground) (s : State) (g : Graph) (rule : RuleOf z g s.word s.page (
             still = rule.stands.stopped.still;
             stopping = λ h j l e. counted_at _ refl j (eqb_tells i j) e l (counted_kept.stopping h);
           })
-          known_kept),
+          known_kept working_kept),
     )
 
   -- the epoch wanted was loaded
@@ -128,37 +132,52 @@ module _ (z : Ground) (s : State) (g : Graph) (rule : RuleOf z g s.word s.page (
     g,
     subst (λ x. RuleOf z g x s.page (views_of (upd s.caller by (record (s.caller by) { collecting = record old { wanted = f.word } }))) s.history)
         (sym (put_same s.word Want f.word (sym found)))
-        (collected_still z s g rule by collects.collector (record old { wanted = f.word }) refl ended_kept counted_kept (omega (arith, found))),
+        (collected_still z s g rule by collects.collector (record old { wanted = f.word }) refl ended_kept counted_kept (omega (arith, found))
+        working_kept),
   )
 
-  -- whether the marking is over changes
-  over_kept : (over : Bool) →
-      RuleOf z g s.word s.page (views_of (upd s.caller by (record (s.caller by) { collecting = record old { over = over } }))) s.history
-  over_kept over = collected_still z s g rule by collects.collector (record old { over = over }) refl ended_kept counted_kept known_kept
+  by_me : phase_of old.stored ≡ phase_of (s.word Phase)
+  by_me = ap phase_of (sym (rule.stands.timed.by_collector ∙ ap (λ (x : Collecting). x.stored) (collector_part z s by collects.collector)))
+
+  -- a count of 0 is found only where the marking is over
+  over_read : Tells f.word 0 → s.word Pending ≡ f.word → cond (eqb f.word 0) true old.over ≡ old.over
+  over_read (inr t) found = ap (λ b. cond b true old.over) t.0
+  over_read (inl t) found = ap (λ b. cond b true old.over) t.0 ∙ over_at old.over refl
+    where
+      over_at : (b : Bool) → old.over ≡ b → true ≡ b
+      over_at true e = refl
+      over_at false e = let all = working_kept.all e in let zero = t.1 in absurd (omega (arith, all, found, zero))
 
   pub count_load : s.word Pending ≡ f.word → Rule z (stepped_by s by (does K16 Pending Loads) f (count_at z by (s.caller by) Pending Loads f Loads))
-  count_load found = (
-    g,
-    subst (λ x. RuleOf z g x s.page (views_of (upd s.caller by (record (s.caller by) {
-      collecting = record old { over = cond (eqb f.word 0) true old.over };
-    }))) s.history) (sym (put_same s.word Pending f.word (sym found)))
-        (over_kept (cond (eqb f.word 0) true old.over)),
-  )
+  count_load found =
+      let part : Collecting = record old { over = cond (eqb f.word 0) true old.over } in (
+        g,
+        subst (λ x. RuleOf z g x s.page (views_of (upd s.caller by (record (s.caller by) { collecting = part }))) s.history)
+            (sym (put_same s.word Pending f.word (sym found)))
+            (collected_still z s g rule by collects.collector part refl ended_kept counted_kept known_kept
+            (subst (λ b. Working z (s.word Phase) (s.word Pending) b) (sym (over_read (eqb_tells f.word 0) found)) working_kept)),
+      )
 
   -- the marking begins
-  pub count_store : (n : ℕ) → Rule z (stepped_by s by (does K16 Pending (Stores n)) f (count_at z by (s.caller by) Pending (Stores n) f (Stores n)))
-  count_store n =
-      let r = over_kept false in (
+  pub count_store : MayBeginMarking z by (s.caller by) here Pending (Stores (z.sizes.threads + 2)) →
+      Rule z (stepped_by s by (does K16 Pending (Stores (z.sizes.threads + 2))) f
+      (count_at z by (s.caller by) Pending (Stores (z.sizes.threads + 2)) f (Stores (z.sizes.threads + 2))))
+  count_store m =
+      let stop : (phase_of (s.word Phase)).code ≡ codes.StopA = ap (λ (x : PhaseWord). x.code) (sym by_me) ∙ m.stopped in (
         g,
-        record { told = r.told; formed = r.formed; read_right = r.read_right; localed = r.localed; stands = r.stands },
+        collected_work z s g rule by collects.collector (record old { over = false }) (z.sizes.threads + 2) refl ended_kept counted_kept
+            known_kept
+            (record {
+              none = λ e. absurd (cc);
+              all = λ _. refl;
+              at_rest = λ h. absurd (subst IsAtRest stop h);
+              in_mark = λ _. refl;
+            }),
       )
 
   -- the phase was stored
   abbrev W : ℕ
   W = s.word Phase
-
-  by_me : phase_of old.stored ≡ phase_of W
-  by_me = ap phase_of (sym (rule.stands.timed.by_collector ∙ ap (λ (x : Collecting). x.stored) (collector_part z s by collects.collector)))
 
   module _ (v : PhaseWord) (good : IsPhaseWord v) (part : Collecting) (is : part.stored ≡ packed_phase v) (same : part.ended ≡ old.ended)
       (less : part.wanted ≡ old.wanted) (paused : pauses v ≡ pauses (phase_of W)) (done : last_done v ≡ last_done (phase_of W))
@@ -166,6 +185,7 @@ module _ (z : Ground) (s : State) (g : Graph) (rule : RuleOf z g s.word s.page (
       (since : (c : ℕ) → c < z.sizes.threads → IsIn (V.position c) → IsSince (phase_of (V.polled c)) v)
       (no_sweep : (phase_of W).code ≢ codes.Sweep)
       (still : IsStill v.code → (i : ℕ) → i < z.sizes.threads → ¬ IsInOrLeaving (V.position i))
+      (working : Working z (packed_phase v) (s.word Pending) part.over)
       (stopping : is_stop v.code ≡ true → (i : ℕ) → i < z.sizes.threads → slice_get part.counted i ≡ Some true →
       ¬ IsInOrLeaving (V.position i)) where
     back : v ≡ phase_of (packed_phase v)
@@ -185,6 +205,7 @@ module _ (z : Ground) (s : State) (g : Graph) (rule : RuleOf z g s.word s.page (
         (record {
           since = λ c l i. subst (λ x. IsSince (phase_of (V.polled c)) x) back (since c l i);
           untargeted = rule.stands.polling.untargeted;
+          due = rule.stands.polling.due;
           targets = rule.stands.polling.targets;
         })
         (record { each = λ c p o l e. owner c (rule.stands.owners.each c p o l e) })
@@ -202,6 +223,7 @@ module _ (z : Ground) (s : State) (g : Graph) (rule : RuleOf z g s.word s.page (
           targets = want.targets;
           few = want.few;
         })
+        working
       where
         owner : (c : ℕ) → MayOwn z W V.position c → MayOwn z (packed_phase v) V.position c
         owner c (inl h) = inl h
@@ -239,6 +261,28 @@ module _ (z : Ground) (s : State) (g : Graph) (rule : RuleOf z g s.word s.page (
   abbrev Stored : ℕ → Type 0
   Stored w = Rule z (stepped_by s by (does K14 Phase (Stores w)) f (phase_stored z by (s.caller by) Phase (Stores w) f))
 
+  -- the marking stays over with the store of a stop, and goes on with that of Mark
+  stop_working : (at : PhaseWord) → at ≡ phase_of W → at.code ≡ codes.Idle → (e : ℕ) →
+      Working z (packed_phase (record { epoch = e; code = codes.StopA })) (s.word Pending) old.over
+  stop_working at same idle e =
+      let over = working_kept.at_rest (subst IsAtRest (sym (ap (λ (x : PhaseWord). x.code) (sym same) ∙ idle)) tt) in
+      let code = ap (λ (x : PhaseWord). x.code) (phase_packed (record { epoch = e; code = codes.StopA })) in record {
+        none = working_kept.none;
+        all = working_kept.all;
+        at_rest = λ _. over;
+        in_mark = λ h. let x : codes.StopA ≡ codes.Mark = sym code ∙ h in absurd (cc);
+      }
+
+  mark_working : (w e : ℕ) → MayMark z by (s.caller by) here w →
+      Working z (packed_phase (record { epoch = e; code = codes.Mark })) (s.word Pending) old.over
+  mark_working w e m =
+      let code = ap (λ (x : PhaseWord). x.code) (phase_packed (record { epoch = e; code = codes.Mark })) in record {
+        none = working_kept.none;
+        all = working_kept.all;
+        at_rest = λ h. absurd (subst IsAtRest code h);
+        in_mark = λ _. m.begun;
+      }
+
   stop_stored : IsGoodGround z → (w : ℕ) → MayStop z by (s.caller by) here w → Stored w
   stop_stored good w m =
       let old_phase = phase_of W in
@@ -256,6 +300,7 @@ module _ (z : Ground) (s : State) (g : Graph) (rule : RuleOf z g s.word s.page (
             (λ c l i. since_stop_at (phase_of (V.polled c)).epoch (phase_of (V.polled c)).code old_phase idle (rule.stands.polling.since c l i))
             (λ e. let x : codes.Idle ≡ codes.Sweep = sym idle ∙ e in cc)
             (λ h. absurd h)
+            (stop_working old_phase refl idle (old_phase.epoch + 1))
             (λ _ i l e. absurd (none_counted z.sizes.threads i
             (ap (λ (x : PhaseWord). slice_get (counted_from z by (s.caller by) Phase (Stores (packed_phase v)) f x.code old.counted) i)
             (sym (phase_packed v)) ∙ e))),
@@ -280,6 +325,7 @@ module _ (z : Ground) (s : State) (g : Graph) (rule : RuleOf z g s.word s.page (
             (λ c l i. absurd (gone c l (in_leaves (V.position c) i)))
             (λ e. let x : codes.StopA ≡ codes.Sweep = sym stop ∙ e in cc)
             (λ _. gone)
+            (mark_working w old_phase.epoch m)
             (λ h. absurd (cc)),
       )
 

@@ -1,5 +1,5 @@
 -- Whatever the step, it keeps the rule.
-use Rattle.std.proofs.Common.{ℕ, ◌+◌, inl, inr, Bool, sym, subst}
+use Rattle.std.proofs.Common.{ℕ, ◌+◌, inl, inr, Bool, sym, subst, refl}
 use Rattle.kn_base.specs.declared.places.Place.{Place}
 use Rattle.kn_base.specs.declared.places.Place.TheVariants.{Phase, Want, Pending, State as StateOf}
 use Rattle.kn_graph.specs.Ground.{Ground, IsGoodGround}
@@ -53,7 +53,14 @@ module _ (z : Ground) (good : IsGoodGround z) (s : State) (by : ℕ) (here : ℕ
   unfolding IsKept
   count_kept p a (inl m) =
       subst (λ q. Kept K16 q a) (sym m.place) (subst (λ b. Kept K16 Pending b) (sym m.act)
-      (λ h. count_store z s r.0 r.1 by here m.collects f (z.sizes.threads + 2)))
+      (λ h. count_store z s r.0 r.1 by here m.collects f (record {
+        place = refl;
+        act = refl;
+        collects = m.collects;
+        stopped = m.stopped;
+        counted = m.counted;
+        once = m.once;
+      })))
   count_kept p a (inr m) =
       subst (λ q. Kept K16 q a) (sym m.place) (subst (λ b. Kept K16 Pending b) (sym m.act)
       (λ h. count_load z s r.0 r.1 by here m.collects f h.0))

@@ -28,7 +28,8 @@ use Rattle.kn_rule.specs.Steps.{Found, does, quietly, epoch_in, word_after}
 use Rattle.kn_rule.specs.Moves.{stepped_by}
 use Rattle.kn_rule.specs.HistoryClauses.{under_way, births_under_way, Told}
 use Rattle.kn_rule.specs.ObjectClauses.{IsReadAt, IsWriting, IsAskedBy}
-use Rattle.kn_rule.specs.CallerClauses.{state_number, IsIn, IsBusy, IsInOrLeaving, IsSince, IsTarget, Polled, IsTargetOf, IsWantedBySome, targets_had, Wanted}
+use Rattle.kn_rule.specs.CallerClauses.{state_number, IsIn, IsBusy, IsInOrLeaving, IsSince, IsTarget}
+use Rattle.kn_rule.specs.CallerClauses.{Polled, IsTargetOf, IsWantedBySome, targets_had, Wanted, IsDue}
 use Rattle.kn_rule.specs.Totals.{total}
 use Rattle.kn_rule.specs.Rule.{Rule, RuleOf}
 use Rattle.kn_keep_heap.proofs.Parts.{local_same, own_same, taken_same, position_put, polled_same, target_put, header_same, log_same, calls_same}
@@ -117,6 +118,8 @@ module _ (z : Ground) (s : State) (by : ℕ) (less : by < z.sizes.threads) (g : 
         (λ _ l i. rule.stands.polling.since c l i) l i;
     untargeted = λ c l i. upd_case2 (λ k p t. k < z.sizes.threads → IsBusy p → t ≡ None) V.position V.target by Waiting (Some wish)
         (λ _ h. absurd h) c (λ _ l i. rule.stands.polling.untargeted c l i) l i;
+    due = λ c l. upd_case2 (λ k p t. k < z.sizes.threads → IsDue p t) V.position V.target by Waiting (Some wish) (λ _. tt) c
+        (λ _ l. rule.stands.polling.due c l) l;
     targets = λ c l. upd_case (λ k t. k < z.sizes.threads → IsTarget g.paused want' t (V.log k)) V.target by (Some wish)
         (λ l. (
           omega arith,
@@ -227,6 +230,7 @@ module _ (z : Ground) (s : State) (by : ℕ) (less : by < z.sizes.threads) (g : 
                 stopped = stopped_at z V.position by Waiting (s.word Phase) (λ c. (V.rest c).collecting.counted) rule.stands.stopped
                     (λ _ _. subst (λ p. IsInOrLeaving p) (sym is) tt);
                 wanted = wanted;
+                working = rule.stands.working;
                 framed = rule.stands.framed;
                 housed = rule.stands.housed;
                 handed = rule.stands.handed;

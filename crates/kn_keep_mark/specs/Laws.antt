@@ -1,5 +1,7 @@
 -- What the laws over all kinds of step say.
-use Rattle.std.specs.Prelude.{ℕ, Bool}
+use Rattle.std.specs.Prelude.{ℕ, ◌≤◌, Bool}
+use Rattle.kn_base.specs.declared.limits.TheConstants.{MOST_CALLS}
+use Rattle.kn_base.specs.declared.places.Place.TheVariants.{Want}
 use Rattle.kn_graph.specs.Ground.{Ground, IsGoodGround}
 use Rattle.kn_rule.specs.declared.steps.Kind.{Kind}
 use Rattle.kn_rule.specs.Places.{Within}
@@ -18,3 +20,7 @@ abbrev pub StepsLieWithin : Type 0
 StepsLieWithin =
     (z : Ground) (s : State) (by : ℕ) (here : ℕ → Bool) (d : Step) → IsGoodGround z → Rule z s → MayMake z by (s.caller by) here d →
     Within z.sizes d.place
+
+-- in a state that meets the rule the epoch wanted is at most the greatest number of calls
+abbrev pub EpochsAreFew : Type 0
+EpochsAreFew = (z : Ground) (s : State) → IsGoodGround z → Rule z s → s.word Want ≤ MOST_CALLS

@@ -1,8 +1,8 @@
-//! The laws, one for each kind of step, and over all kinds.
+//! The laws: one for each kind of step, over all kinds, and on the epoch wanted.
 
 ghost use Rattle.kn_rule.specs.declared.steps.Kind.TheVariants.{K13, K14, K15, K16};
 ghost use Rattle.kn_keep_heap.specs.Laws.{KeepsRule};
-ghost use Rattle.kn_keep_mark.specs.Laws.{StepsKeepRule, StepsLieWithin};
+ghost use Rattle.kn_keep_mark.specs.Laws.{EpochsAreFew, StepsKeepRule, StepsLieWithin};
 
 /// A raise of the epoch wanted, and a load of it, keeps the rule.
 pub fn keeps_k13()
@@ -32,4 +32,9 @@ pub fn places_lie()
 /// Each step that a view allows keeps the rule, of whatever kind it is.
 pub fn steps_keep()
     ensures { StepsKeepRule }
+{}
+
+/// No more epochs are wanted than calls may be made.
+pub fn epochs_are_few()
+    ensures { EpochsAreFew }
 {}

@@ -69,6 +69,7 @@ module _ (m : Mutating) (a : Stand) (here : ℕ → Bool) (g : Agrees m a here) 
         epoch = ap epoch_in on_view ∙ g.knows.epoch;
         log = ap (λ (v : View). v.log) on_view ∙ g.knows.log;
         begun = ap (λ (v : View). v.calls) on_view ∙ g.knows.begun;
+        target = ap (λ (v : View). v.target) on_view ∙ g.knows.target;
       };
     }
 
@@ -82,15 +83,16 @@ module _ (m : Mutating) (a : Stand) (here : ℕ → Bool) (g : Agrees m a here) 
         epoch = on_follows.knows.epoch;
         log = on_follows.knows.log;
         begun = on_follows.knows.begun;
+        target = on_follows.knows.target;
       };
       planned = g.planned;
       births = ap (λ (v : View). v.births) on_view ∙ g.births;
-      target = ap (λ (v : View). v.target) on_view ∙ g.target;
       width = g.width;
       addresses = g.addresses;
       at = subst (λ t. AtTask t (record m { alloc = alloc }) b.view) (sym is) (record {
         position = ap (λ (v : View). v.position) on_view ∙ at_birth.position;
         birth = at_birth.birth;
+        untargeted = at_birth.untargeted;
         under_way = at_birth.under_way;
         alloc = gets;
       });
@@ -121,13 +123,13 @@ module _ (m : Mutating) (a : Stand) (here : ℕ → Bool) (g : Agrees m a here) 
             epoch = ap epoch_in e ∙ g.knows.epoch;
             log = ap (λ (v : View). v.log) e ∙ said_is m a here g call replies.Full 0;
             begun = ap (λ (v : View). v.calls) e ∙ g.knows.begun;
+            target = ap (λ (v : View). v.target) e ∙ g.knows.target;
           };
           planned = g.planned;
           births = ap (λ (v : View). v.births) e ∙ g.births;
-          target = ap (λ (v : View). v.target) e ∙ g.target;
           width = g.width;
           addresses = g.addresses;
-          at = rest_at full b.view full_at (answers_more m call at_birth.under_way replies.Full 0) rests;
+          at = rest_at full b.view full_at (answers_more m call at_birth.under_way replies.Full 0) at_birth.untargeted rests;
         }
 
   -- the object is born
@@ -148,15 +150,16 @@ module _ (m : Mutating) (a : Stand) (here : ℕ → Bool) (g : Agrees m a here) 
             epoch = ap epoch_in e ∙ g.knows.epoch;
             log = ap (λ (v : View). v.log) e ∙ said_is m a here g call replies.Ok address;
             begun = ap (λ (v : View). v.calls) e ∙ g.knows.begun;
+            target = ap (λ (v : View). v.target) e ∙ g.knows.target;
           };
           planned = g.planned;
           births = ap (λ (v : View). v.births) e ∙ g.births;
-          target = ap (λ (v : View). v.target) e ∙ g.target;
           width = length-set m.locals o.0 address ∙ g.width;
           addresses = λ r l. subst (λ l. slice_index l r ≤ 1000000) locals (small r l);
           at = record {
             position = ap (λ (v : View). v.position) e;
             answers = answers_more m call at_birth.under_way replies.Ok address;
+            untargeted = at_birth.untargeted;
             alloc = rests;
           };
         }

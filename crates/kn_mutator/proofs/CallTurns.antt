@@ -29,30 +29,30 @@ use Rattle.kn_mutator.specs.Turns.{Goes, asks_none}
 use Rattle.kn_mutator.proofs.Calling.{calls_at, in_range, turn_answers, turn_goes_on, turn_refers, turn_small}
 
 -- a call on a field loads the header of its object first
-header_step : (c : ℕ) (local : ℕ → ℕ) (call : Call) (s i : ℕ) (kind : FieldKind) → field_of call ≡ Some (s, i, kind) →
-    call_step c local call None ≡ Some (does K4 (Body (local s)) Loads)
-header_step c local (calls.New r l) s i k e = cc
-header_step c local (calls.NewArray r l n) s i k e = cc
-header_step c local (Copy r t) s i k e = cc
-header_step c local (Clear r) s i k e = cc
-header_step c local (calls.Same r t) s i k e = cc
-header_step c local (Get r t n) s i k e = ap (λ x. Some (does K4 (Body (local (unwrap_or {T = ℕ × ℕ × FieldKind} x (s, i, k)).0)) Loads)) e
-header_step c local (Set t n r) s i k e = ap (λ x. Some (does K4 (Body (local (unwrap_or {T = ℕ × ℕ × FieldKind} x (s, i, k)).0)) Loads)) e
-header_step c local (Put t n w) s i k e = ap (λ x. Some (does K4 (Body (local (unwrap_or {T = ℕ × ℕ × FieldKind} x (s, i, k)).0)) Loads)) e
-header_step c local (Read t n) s i k e = ap (λ x. Some (does K4 (Body (local (unwrap_or {T = ℕ × ℕ × FieldKind} x (s, i, k)).0)) Loads)) e
-header_step c local (GlobalSet n r) s i k e = cc
-header_step c local (GlobalGet r n) s i k e = cc
-header_step c local (calls.Pin n r) s i k e = cc
-header_step c local (calls.Unpin n) s i k e = cc
-header_step c local (calls.StableGet r n) s i k e = cc
-header_step c local (calls.MakeWeak n r) s i k e = cc
-header_step c local (calls.WeakGet r n) s i k e = cc
-header_step c local (calls.MakeBack n r) s i k e = cc
-header_step c local (calls.Retain n) s i k e = cc
-header_step c local (calls.Release n) s i k e = cc
-header_step c local (calls.BackGet r n) s i k e = cc
-header_step c local (calls.Tie r n w) s i k e = cc
-header_step c local calls.Collect s i k e = cc
+header_step : (c epoch : ℕ) (local : ℕ → ℕ) (call : Call) (s i : ℕ) (kind : FieldKind) → field_of call ≡ Some (s, i, kind) →
+    call_step c epoch local call None ≡ Some (does K4 (Body (local s)) Loads)
+header_step c epoch local (calls.New r l) s i k e = cc
+header_step c epoch local (calls.NewArray r l n) s i k e = cc
+header_step c epoch local (Copy r t) s i k e = cc
+header_step c epoch local (Clear r) s i k e = cc
+header_step c epoch local (calls.Same r t) s i k e = cc
+header_step c epoch local (Get r t n) s i k e = ap (λ x. Some (does K4 (Body (local (unwrap_or {T = ℕ × ℕ × FieldKind} x (s, i, k)).0)) Loads)) e
+header_step c epoch local (Set t n r) s i k e = ap (λ x. Some (does K4 (Body (local (unwrap_or {T = ℕ × ℕ × FieldKind} x (s, i, k)).0)) Loads)) e
+header_step c epoch local (Put t n w) s i k e = ap (λ x. Some (does K4 (Body (local (unwrap_or {T = ℕ × ℕ × FieldKind} x (s, i, k)).0)) Loads)) e
+header_step c epoch local (Read t n) s i k e = ap (λ x. Some (does K4 (Body (local (unwrap_or {T = ℕ × ℕ × FieldKind} x (s, i, k)).0)) Loads)) e
+header_step c epoch local (GlobalSet n r) s i k e = cc
+header_step c epoch local (GlobalGet r n) s i k e = cc
+header_step c epoch local (calls.Pin n r) s i k e = cc
+header_step c epoch local (calls.Unpin n) s i k e = cc
+header_step c epoch local (calls.StableGet r n) s i k e = cc
+header_step c epoch local (calls.MakeWeak n r) s i k e = cc
+header_step c epoch local (calls.WeakGet r n) s i k e = cc
+header_step c epoch local (calls.MakeBack n r) s i k e = cc
+header_step c epoch local (calls.Retain n) s i k e = cc
+header_step c epoch local (calls.Release n) s i k e = cc
+header_step c epoch local (calls.BackGet r n) s i k e = cc
+header_step c epoch local (calls.Tie r n w) s i k e = cc
+header_step c epoch local calls.Collect s i k e = cc
 
 module _ {T : Type 0} (stand : T → Stand) (here : T → ℕ → Bool) (did : T → Step → Found → T → Type 0)
     (moved : T → ℕ → Option FrameView → Option FrameView → T → Type 0) (m : Mutating) (s s' : T) (g : Agrees m (stand s) (here s)) (f : Found) where
@@ -60,12 +60,13 @@ module _ {T : Type 0} (stand : T → Stand) (here : T → ℕ → Bool) (did : T
   module _ (by r value word : ℕ) (is_by : by ≡ m.by) (same : word ≡ value) (h : Option ℕ)
       (made : Made (stand s) (here s) (does K3 (Local by r) (Stores word)) f (stand s') (here s'))
       (kept : did s (does K3 (Local by r) (Stores word)) f s') where
-    writes_local : (call : Call) → m.task ≡ Calls call h → call_step m.by (local_kept m) call h ≡ Some (does K3 (Local m.by r) (Stores value)) →
+    writes_local : (call : Call) → m.task ≡ Calls call h →
+        call_step m.by m.epoch (local_kept m) call h ≡ Some (does K3 (Local m.by r) (Stores value)) →
         (q : Mutating) → q ≡ assigned m call r value → Goes stand here did moved asks_none m s s' q Moved
     writes_local call is named =
         let v : View = (stand s).view in
         let at : CallsAt m v call h = calls_at m (stand s) (here s) g call h is in
-        let step : call_step m.by (local_kept m) call h ≡ Some (does K3 (Local by r) (Stores word)) =
+        let step : call_step m.by m.epoch (local_kept m) call h ≡ Some (does K3 (Local by r) (Stores word)) =
         named ∙ (ap (λ b. Some (does K3 (Local b r) (Stores value))) (sym is_by) ∙ ap (λ w. Some (does K3 (Local by r) (Stores w))) (sym same)) in
         turn_answers stand here did moved m s s' g call h is (does K3 (Local by r) (Stores word)) f step made kept made.lies replies.Ok
         (slice_set v.locals r word) (slice_set m.locals r value)
@@ -85,7 +86,7 @@ module _ {T : Type 0} (stand : T → Stand) (here : T → ℕ → Bool) (did : T
   module _ (p : Place) (word t i header : ℕ) (place : p ≡ Body (slice_index m.locals t + 1 + i))
       (made : Made (stand s) (here s) (does K5 p (Stores word)) f (stand s') (here s')) (kept : did s (does K5 p (Stores word)) f s') where
     stores_field : (call : Call) → m.task ≡ Calls call (Some header) →
-        call_step m.by (local_kept m) call (Some header) ≡ Some (does K5 (Body (slice_index m.locals t + 1 + i)) (Stores word)) →
+        call_step m.by m.epoch (local_kept m) call (Some header) ≡ Some (does K5 (Body (slice_index m.locals t + 1 + i)) (Stores word)) →
         (q : Mutating) → q ≡ answered m call replies.Ok → Goes stand here did moved asks_none m s s' q Moved
     stores_field call is named =
         let v : View = (stand s).view in
@@ -164,8 +165,8 @@ module _ {T : Type 0} (stand : T → Stand) (here : T → ℕ → Bool) (did : T
   module _ (call : Call) (is : m.task ≡ Calls call None) (t i : ℕ) (wanted : FieldKind) (field : field_of call ≡ Some (t, i, wanted)) (address : ℕ)
       (place : address ≡ slice_index m.locals t) (made : Made (stand s) (here s) (does K4 (Body address) Loads) f (stand s') (here s'))
       (kept : did s (does K4 (Body address) Loads) f s') where
-    named : call_step m.by (local_kept m) call None ≡ Some (does K4 (Body address) Loads)
-    named = header_step m.by (local_kept m) call t i wanted field ∙ ap (λ a. Some (does K4 (Body a) Loads)) (sym place)
+    named : call_step m.by m.epoch (local_kept m) call None ≡ Some (does K4 (Body address) Loads)
+    named = header_step m.by m.epoch (local_kept m) call t i wanted field ∙ ap (λ a. Some (does K4 (Body a) Loads)) (sym place)
 
     goes_on : (k : FieldKind) → wanted ≡ k → told_kind m.heap f.word i ≡ Some k →
         view_after (stand s).heap (stand s).by (stand s).view (does K4 (Body address) Loads) f

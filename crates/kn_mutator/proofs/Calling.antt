@@ -9,6 +9,7 @@ use Rattle.kn_graph.specs.declared.calls.Reply.{Reply}
 use Rattle.kn_graph.specs.Arguments.{IsInRange}
 use Rattle.kn_layout.specs.declared.layouts.FieldKind.{FieldKind}
 use Rattle.kn_rule.specs.declared.positions.Position.TheVariants as positions
+use Rattle.kn_rule.specs.Allowed.{IsBuilt}
 use Rattle.kn_rule.specs.Moves.{view_after}
 use Rattle.kn_rule.specs.Outcomes.{ref_word}
 use Rattle.kn_rule.specs.Requests.{field_of, told_kind}
@@ -20,7 +21,7 @@ use Rattle.kn_alloc.specs.Agree.{IsIdle}
 use Rattle.kn_mutator.specs.declared.task.Task.TheVariants.{Calls, Writes}
 use Rattle.kn_mutator.specs.Agree.{Agrees, AtTask, CallsAt, HasEnded, IsHeaderRead}
 use Rattle.kn_mutator.specs.After.{referred, resting_task, said}
-use Rattle.kn_mutator.specs.Mutating.{IsMade, Mutating}
+use Rattle.kn_mutator.specs.Mutating.{Mutating}
 use Rattle.kn_mutator.specs.Tasks.{call_step, calling_task, has_left, has_single, local_kept, task_at, task_by}
 use Rattle.kn_mutator.specs.Turns.{Goes, asks_none}
 use Rattle.kn_mutator.proofs.Making.{goes_by, makes, moves_on, rest_goes_on}
@@ -31,10 +32,10 @@ module _ (m : Mutating) (a : Stand) (here : ℕ → Bool) (g : Agrees m a here) 
   pub calls_at : CallsAt m a.view call h
   calls_at = subst (λ t. AtTask t m a.view) is g.at
 
-  pub is_made : IsMade call
-  is_made =
+  pub is_built : IsBuilt call
+  is_built =
       let under = calls_at.under_way in
-      all_get IsMade m.calls under.number call g.planned.made under.is_call
+      all_get IsBuilt m.calls under.number call g.planned.built under.is_call
 
   pub in_range : IsInRange m.heap call
   in_range =
@@ -52,9 +53,9 @@ module _ (m : Mutating) (a : Stand) (here : ℕ → Bool) (g : Agrees m a here) 
         let u : View = logged (saying a.by (epoch_in a.view) call reply 0 (record a.view { position = positions.Between; locals = now })) in
         let m' : Mutating = record m { locals = locals; log = said m call reply 0; task = resting_task m } in
         agrees_then m a here g idle b here' u view refl refl refl lies m.begun m.epoch locals (resting_task m) (said m call reply 0)
-        (record { locals = same; epoch = g.knows.epoch; log = said_is m a here g call reply 0; begun = g.knows.begun }) g.births g.target width
+        (record { locals = same; epoch = g.knows.epoch; log = said_is m a here g call reply 0; begun = g.knows.begun; target = g.knows.target }) g.births width
         (addresses_made a here d f b here' made g.alloc.good (is_thread m a here g))
-        (rest_at m' u refl (answers_more m call at.under_way reply 0) at.alloc)
+        (rest_at m' u refl (answers_more m call at.under_way reply 0) at.untargeted at.alloc)
 
     -- a reference was read, whose store is due
     pub referred_agrees : (r w : ℕ) →
@@ -75,10 +76,11 @@ module _ (m : Mutating) (a : Stand) (here : ℕ → Bool) (g : Agrees m a here) 
           epoch = g.knows.epoch;
           log = said_is m a here g call (ref_word w) 0;
           begun = g.knows.begun;
+          target = g.knows.target;
         })
-        g.births g.target (length-set m.locals r w ∙ g.width)
+        g.births (length-set m.locals r w ∙ g.width)
         (addresses_made a here d f b here' made g.alloc.good (is_thread m a here g))
-        (record { position = refl; answers = answers_more m call at.under_way (ref_word w) 0; alloc = at.alloc })
+        (record { position = refl; answers = answers_more m call at.under_way (ref_word w) 0; untargeted = at.untargeted; alloc = at.alloc })
 
     -- the reference that was read is an address
     pub referred_small : (r w : ℕ) → r < LOCALS →
@@ -102,12 +104,13 @@ module _ (m : Mutating) (a : Stand) (here : ℕ → Bool) (g : Agrees m a here) 
         let u : View = logged (quietly (record a.view { header = Some w })) in
         let m' : Mutating = record m { task = Calls call (Some w) } in
         agrees_then m a here g idle b here' u view refl refl refl lies m.begun m.epoch m.locals (Calls call (Some w)) m.log
-        (record { locals = g.knows.locals; epoch = g.knows.epoch; log = g.knows.log; begun = g.knows.begun }) g.births g.target g.width
+        (record { locals = g.knows.locals; epoch = g.knows.epoch; log = g.knows.log; begun = g.knows.begun; target = g.knows.target }) g.births g.width
         (addresses_made a here d f b here' made g.alloc.good (is_thread m a here g))
         (record {
           position = at.position;
           header = refl;
           no_birth = at.no_birth;
+          untargeted = at.untargeted;
           not_alone = at.not_alone;
           under_way = at.under_way;
           alloc = at.alloc;
@@ -118,12 +121,12 @@ module _ (m : Mutating) (a : Stand) (here : ℕ → Bool) (g : Agrees m a here) 
 -- the turns
 module _ {T : Type 0} (stand : T → Stand) (here : T → ℕ → Bool) (did : T → Step → Found → T → Type 0)
     (moved : T → ℕ → Option FrameView → Option FrameView → T → Type 0) (m : Mutating) (s s' : T) (g : Agrees m (stand s) (here s))
-    (call : Call) (h : Option ℕ) (is : m.task ≡ Calls call h) (d : Step) (f : Found) (named : call_step m.by (local_kept m) call h ≡ Some d)
+    (call : Call) (h : Option ℕ) (is : m.task ≡ Calls call h) (d : Step) (f : Found) (named : call_step m.by m.epoch (local_kept m) call h ≡ Some d)
     (made : Made (stand s) (here s) d f (stand s') (here s')) (kept : did s d f s') (lies : LieAs (stand s').view (here s) (here s')) where
   is_idle : IsIdle m.alloc.stage
   is_idle = subst IsIdle (sym (calls_at m (stand s) (here s) g call h is).alloc) tt
 
-  turn_by : (m' : Mutating) → m'.task ≡ task_by m' (stand s').view → m'.alloc ≡ m.alloc → m'.heap ≡ m.heap → m'.by ≡ m.by →
+  pub turn_by : (m' : Mutating) → m'.task ≡ task_by m' (stand s').view → m'.alloc ≡ m.alloc → m'.heap ≡ m.heap → m'.by ≡ m.by →
       m'.calls ≡ m.calls → Agrees m' (stand s') (here s') → (HasEnded m'.task → ⊥) → (q : Mutating) → q ≡ m' →
       Goes stand here did moved asks_none m s s' q Moved
   turn_by m' task alloc heap by calls agrees on q is_q =

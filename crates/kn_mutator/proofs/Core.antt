@@ -1,7 +1,7 @@
 -- What a step that leaves the allocator at rest makes of the agreement.
 use Rattle.std.proofs.Common.{◌≡◌, ℕ, zero, suc, ◌+◌, ◌^◌, ◌<◌, ◌≤◌, ◌⊎◌, inl}
 use Rattle.std.proofs.Common.{inr, Bool, true, false, List, [], ◌∷◌, ◌++◌, length, take}
-use Rattle.std.proofs.Common.{Some, None, slice_get, slice_index, nat_lt, refl, sym, ap, ◌∙◌, subst, arith}
+use Rattle.std.proofs.Common.{Option, Some, None, slice_get, slice_index, nat_lt, refl, sym, ap, ◌∙◌, subst, arith}
 use Rattle.std.specs.List.{AllByRecursion}
 use Rattle.std.proofs.lemmas.Bool.{true≢false}
 use Rattle.std.proofs.lemmas.Bool.Decides.{leb_tells}
@@ -106,11 +106,11 @@ module _ (m : Mutating) (call : Call) (under : UnderWay m.log m.calls m.begun ca
 
 -- between two calls
 module _ (m : Mutating) (v : View) (at : v.position ≡ positions.Between) (answers : HasAnswered m.log m.calls m.begun) where
-  rest_by : (left single : Bool) → (left ≡ true → m.begun < length m.calls) → (left ≡ false → m.begun ≡ length m.calls) →
+  rest_by : (left single : Bool) → m.target ≡ None → (left ≡ true → m.begun < length m.calls) → (left ≡ false → m.begun ≡ length m.calls) →
       (single ≡ true → has_single m.alloc.hands ≡ true) → m.alloc.stage ≡ Resting → AtTask (rest_task left single) m v
-  rest_by false single l n s r = (inl at, record { answers = answers; alloc = subst IsIdle (sym r) tt }, n refl)
-  rest_by true true l n s r = (at, record { answers = answers; alloc = subst IsIdle (sym r) tt }, l refl, λ _. s refl)
-  rest_by true false l n s r = (record { position = at; answers = answers; alloc = r }, l refl)
+  rest_by false single u l n s r = (inl at, record { answers = answers; untargeted = u; alloc = subst IsIdle (sym r) tt }, n refl)
+  rest_by true true u l n s r = (at, record { answers = answers; untargeted = u; alloc = subst IsIdle (sym r) tt }, l refl, λ _. s refl)
+  rest_by true false u l n s r = (record { position = at; answers = answers; untargeted = u; alloc = r }, l refl)
 
   left_told : (left : Bool) → nat_lt m.begun (length m.calls) ≡ left →
       (left ≡ true → m.begun < length m.calls) × (left ≡ false → m.begun ≡ length m.calls)
@@ -122,10 +122,10 @@ module _ (m : Mutating) (v : View) (at : v.position ≡ positions.Between) (answ
       by (inl t) = (λ _. t.1, λ f. absurd (true≢false (sym t.0 ∙ e ∙ f)))
       by (inr t) = (λ f. absurd (true≢false (sym (e ∙ f) ∙ t.0)), λ _. let w = answers.within in let l = t.1 in omega arith)
 
-  pub rest_at : m.alloc.stage ≡ Resting → AtTask (resting_task m) m v
-  rest_at r =
+  pub rest_at : m.target ≡ None → m.alloc.stage ≡ Resting → AtTask (resting_task m) m v
+  rest_at u r =
       let l = left_told (has_left m) refl in
-      rest_by (has_left m) (has_single m.alloc.hands) l.0 l.1 (λ e. e) r
+      rest_by (has_left m) (has_single m.alloc.hands) u l.0 l.1 (λ e. e) r
 
   pub rest_is : task_by m v ≡ resting_task m
   rest_is = ap (task_at (has_left m) (has_single m.alloc.hands) v.header) at
@@ -143,13 +143,13 @@ module _ (m : Mutating) (a : Stand) (here : ℕ → Bool) (g : Agrees m a here) 
       (ap (λ (v : View). v.owned) view_is ∙ owned) (ap (λ (v : View). v.taken) view_is ∙ taken)
       (ap (λ (v : View). v.sweep) view_is ∙ sweep) lies
 
-  pub agrees_then : (n e : ℕ) (locals : List ℕ) (task : Task) (log : List Entry) →
-      Knows (record m { begun = n; epoch = e; locals = locals; task = task; log = log }) u → u.births ≡ births_among (take n m.calls) →
-      u.target ≡ None → length locals ≡ LOCALS → ((r : ℕ) → r < LOCALS → slice_index b.view.locals r ≤ 1000000) →
-      AtTask task (record m { begun = n; epoch = e; locals = locals; task = task; log = log }) u →
-      Agrees (record m { begun = n; epoch = e; locals = locals; task = task; log = log }) b here'
-  agrees_then n e locals task log knows births target width small at =
-      let m' : Mutating = record m { begun = n; epoch = e; locals = locals; task = task; log = log } in
+  pub agrees_with : (target : Option ℕ) (n e : ℕ) (locals : List ℕ) (task : Task) (log : List Entry) →
+      Knows (record m { begun = n; epoch = e; target = target; locals = locals; task = task; log = log }) u →
+      u.births ≡ births_among (take n m.calls) → length locals ≡ LOCALS → ((r : ℕ) → r < LOCALS → slice_index b.view.locals r ≤ 1000000) →
+      AtTask task (record m { begun = n; epoch = e; target = target; locals = locals; task = task; log = log }) u →
+      Agrees (record m { begun = n; epoch = e; target = target; locals = locals; task = task; log = log }) b here'
+  agrees_with target n e locals task log knows births width small at =
+      let m' : Mutating = record m { begun = n; epoch = e; target = target; locals = locals; task = task; log = log } in
       record {
         alloc = alloc_then;
         heap = ap (λ (x : Stand). x.heap) view ∙ g.heap;
@@ -157,8 +157,15 @@ module _ (m : Mutating) (a : Stand) (here : ℕ → Bool) (g : Agrees m a here) 
         knows = subst (Knows m') (sym view_is) knows;
         planned = g.planned;
         births = ap (λ (v : View). v.births) view_is ∙ births;
-        target = ap (λ (v : View). v.target) view_is ∙ target;
         width = width;
         addresses = λ r l. subst (λ l. slice_index l r ≤ 1000000) (ap (λ (v : View). v.locals) view_is ∙ knows.locals) (small r l);
         at = subst (AtTask task m') (sym view_is) at;
       }
+
+  -- the same, where no other epoch is wanted behind it
+  pub agrees_then : (n e : ℕ) (locals : List ℕ) (task : Task) (log : List Entry) →
+      Knows (record m { begun = n; epoch = e; locals = locals; task = task; log = log }) u → u.births ≡ births_among (take n m.calls) →
+      length locals ≡ LOCALS → ((r : ℕ) → r < LOCALS → slice_index b.view.locals r ≤ 1000000) →
+      AtTask task (record m { begun = n; epoch = e; locals = locals; task = task; log = log }) u →
+      Agrees (record m { begun = n; epoch = e; locals = locals; task = task; log = log }) b here'
+  agrees_then = agrees_with m.target

@@ -22,9 +22,9 @@ use Rattle.kn_mutator.specs.Agree.{Agrees, AtTask, HasEnded, HasLeft, Rests}
 use Rattle.kn_mutator.specs.Begun.{BeginsAs, Hears, HearsAs, RequestsCell, alone}
 use Rattle.kn_mutator.specs.Mutating.{Mutating}
 use Rattle.kn_mutator.specs.Tasks.{calling_task, has_left, has_single, idle_at, next_call, poll_for, polled_answer, polled_task, task_at, task_by}
-use Rattle.kn_mutator.specs.Turns.{Goes, IsAllocBehind, PollsNext, TurnedAt}
+use Rattle.kn_mutator.specs.Turns.{EntersFor, Goes, IsAllocBehind, PollsNext, TurnedAt}
 use Rattle.kn_mutator.proofs.Making.{alloc_rests, goes_by, moves_on, not_done, rest_goes_on}
-use Rattle.kn_mutator.proofs.Polling.{answered_at_once, answered_between, gets, goes_on, left, waited}
+use Rattle.kn_mutator.proofs.Polling.{answered_at_once, answered_between, gets, goes_on, left, rests_entering, waited}
 
 there_is_one : (calls : List Call) (n : ℕ) → n < length calls → slice_get calls n ≡ None → ⊥
 there_is_one [] n l e = omega arith
@@ -175,6 +175,9 @@ module _ {T : Type 0} (stand : T → Stand) (here : T → ℕ → Bool) (did : T
       (subst (λ x. Made (stand s) (here s) (poll_for x) (found w page) (stand s') (here s')) is_next made)
       (subst (λ x. did s (poll_for x) (found w page) s') is_next kept) q reply (subst (λ x. Hears m x w q reply) is_next h)
 
-  pub heard : (m.task ≡ Enters) ⊎ (m.task ≡ Polls) → Goes stand here did moved told m s s' q reply
-  heard (inl e) = heard_at Enters e positions.Entering (inl refl) (subst (λ t. AtTask t m (stand s).view) e g.at) (λ m' reply x. x)
+  pub heard : ((m.task ≡ Enters) × (m.target ≡ None)) ⊎ (m.task ≡ Polls) → Goes stand here did moved told m s s' q reply
+  heard (inl e) =
+      heard_at Enters e.0 positions.Entering (inl refl)
+      (rests_entering m (stand s).view positions.Entering e.1 (subst (λ t. AtTask t m (stand s).view) e.0 g.at))
+      (λ m' reply x. subst (λ n. EntersFor stand here did moved n told m s s' m' reply) (sym e.1) x)
   heard (inr e) = heard_at Polls e positions.Between (inr refl) (subst (λ t. AtTask t m (stand s).view) e g.at) (λ m' reply x. x)

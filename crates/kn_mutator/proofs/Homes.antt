@@ -44,10 +44,10 @@ module _ (m : Mutating) (a : Stand) (here : ℕ → Bool) (g : Agrees m a here) 
         epoch = ap epoch_in tells.view ∙ g.knows.epoch;
         log = ap (λ (v : View). v.log) tells.view ∙ g.knows.log;
         begun = ap (λ (v : View). v.calls) tells.view ∙ g.knows.begun;
+        target = ap (λ (v : View). v.target) tells.view ∙ g.knows.target;
       };
       planned = g.planned;
       births = ap (λ (v : View). v.births) tells.view ∙ g.births;
-      target = ap (λ (v : View). v.target) tells.view ∙ g.target;
       width = g.width;
       addresses = g.addresses;
       at = at;
@@ -57,7 +57,7 @@ module _ (m : Mutating) (a : Stand) (here : ℕ → Bool) (g : Agrees m a here) 
     same_position = ap (λ (v : View). v.position) tells.view
 
     may_then : (task : Task) → MayGoHome m → MayGoHome (record m { task = task; alloc = alloc })
-    may_then task h = record { answers = h.answers; alloc = idle }
+    may_then task h = record { answers = h.answers; untargeted = h.untargeted; alloc = idle }
 
     single_sent : m.task ≡ SendsSingle → (alloc.stage ≡ stages.Resting → ⊥) → Agrees (record m { task = SendsSingle; alloc = alloc }) b here'
     single_sent is never =
@@ -68,7 +68,7 @@ module _ (m : Mutating) (a : Stand) (here : ℕ → Bool) (g : Agrees m a here) 
     single_back is rests =
         let at = at_home SendsSingle is in
         home_agrees Polls
-        (record { position = same_position ∙ at.0; answers = at.1.answers; alloc = rests }, at.2)
+        (record { position = same_position ∙ at.0; answers = at.1.answers; untargeted = at.1.untargeted; alloc = rests }, at.2)
 
     moved_at : (p q : Position) → (a.view.position ≡ p) ⊎ (a.view.position ≡ q) → (b.view.position ≡ p) ⊎ (b.view.position ≡ q)
     moved_at p q (inl e) = inl (same_position ∙ e)
@@ -77,7 +77,7 @@ module _ (m : Mutating) (a : Stand) (here : ℕ → Bool) (g : Agrees m a here) 
     leaves_sent : m.task ≡ Leaves → Agrees (record m { task = Leaves; alloc = alloc }) b here'
     leaves_sent is =
         let at = at_home Leaves is in
-        home_agrees Leaves (moved_at positions.Leaving positions.Entering at.0, may_then Leaves at.1, at.2)
+        home_agrees Leaves (moved_at positions.Leaving positions.Entering at.0, at.1, idle)
 
     ends_sent : m.task ≡ Ends → Agrees (record m { task = Ends; alloc = alloc }) b here'
     ends_sent is =
@@ -89,15 +89,15 @@ module _ (m : Mutating) (a : Stand) (here : ℕ → Bool) (g : Agrees m a here) 
       AtTask task (record m { task = task }) (record a.view { position = at }) → Agrees (record m { task = task }) b here'
   went_to n at task f b here' idle made view then =
       agrees_then m a here g idle b here' (record a.view { position = at }) view refl refl refl made.lies m.begun m.epoch m.locals task m.log
-      (record { locals = g.knows.locals; epoch = g.knows.epoch; log = g.knows.log; begun = g.knows.begun }) g.births g.target g.width
+      (record { locals = g.knows.locals; epoch = g.knows.epoch; log = g.knows.log; begun = g.knows.begun; target = g.knows.target }) g.births g.width
       (addresses_made a here (does K2 (StateOf m.by) (Stores n)) f b here' made g.alloc.good (is_thread m a here g)) then
 
   went_out : m.task ≡ Leaves → m.alloc.stage ≡ stages.Resting → (f : Found) (b : Stand) (here' : ℕ → Bool) →
       Made a here (does K2 (StateOf m.by) (Stores 0)) f b here' → Agrees (record m { task = Out }) b here'
   went_out is rests f b here' made =
       let at = at_home Leaves is in
-      went_to 0 positions.Out Out f b here' at.1.alloc made made.view
-      (record { position = refl; answers = at.1.answers; alloc = rests }, at.2)
+      went_to 0 positions.Out Out f b here' at.2 made made.view
+      (record { position = refl; owes = at.1; alloc = rests })
 
   went_end : m.task ≡ Ends → (f : Found) (b : Stand) (here' : ℕ → Bool) →
       Made a here (does K2 (StateOf m.by) (Stores 2)) f b here' → Agrees (record m { task = Ended }) b here'

@@ -12,3 +12,4 @@ pub mod Ones
 pub mod Calling
 pub mod CallTurns
 pub mod Built
+pub mod Awaiting

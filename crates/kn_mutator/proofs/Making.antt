@@ -35,7 +35,7 @@ moves_on t = not_done Moved t (λ e. cc)
 module _ {T : Type 0} (stand : T → Stand) (here : T → ℕ → Bool) (did : T → Step → Found → T → Type 0)
     (moved : T → ℕ → Option FrameView → Option FrameView → T → Type 0) (m : Mutating) (s s' : T) (m' : Mutating) (reply : Turn) where
   pub makes : (t : Task) → m.task ≡ t → (d : Step) (f : Found) → task_step m t ≡ Some d → Made (stand s) (here s) d f (stand s') (here s') →
-      did s d f s' → m'.task ≡ task_behind t f.word m' (stand s').view → m'.alloc ≡ m.alloc → reply ≡ answer_behind t f.word →
+      did s d f s' → m'.task ≡ task_behind t f.word m' (stand s').view → m'.alloc ≡ m.alloc → reply ≡ answer_behind t m.target f.word →
       MakesStep stand here did moved m s s' m' reply
   makes t e d f named made kept task alloc answer = record {
     step = d;
@@ -45,7 +45,7 @@ module _ {T : Type 0} (stand : T → Stand) (here : T → ℕ → Bool) (did : T
     kept = kept;
     task = task ∙ sym (ap (λ t. task_behind t f.word m' (stand s').view) e);
     alloc = alloc;
-    answer = answer ∙ sym (ap (λ t. answer_behind t f.word) e);
+    answer = answer ∙ sym (ap (λ t. answer_behind t m.target f.word) e);
   }
 
   -- the heap, the thread and the calls stay

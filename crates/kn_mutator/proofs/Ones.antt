@@ -1,5 +1,5 @@
 -- Each turn makes one step or moves one page, and a gate's answer is asked by polls alone.
-use Rattle.std.proofs.Common.{◌≡◌, ℕ, inl, inr, Bool, Option, refl, subst}
+use Rattle.std.proofs.Common.{◌≡◌, ℕ, inl, inr, Bool, Option, Some, None, refl, subst}
 use Rattle.kn_base.specs.Pages.{FrameView}
 use Rattle.kn_base.specs.declared.places.Place.TheVariants.{State as StateOf}
 use Rattle.kn_rule.specs.declared.steps.Kind.TheVariants.{K2}
@@ -20,7 +20,7 @@ use Rattle.kn_mutator.specs.declared.task.Task.{Task}
 use Rattle.kn_mutator.specs.declared.task.Task.TheVariants as tasks
 use Rattle.kn_mutator.specs.Agree.{Agrees, AtTask}
 use Rattle.kn_mutator.specs.Mutating.{Mutating}
-use Rattle.kn_mutator.specs.Turns.{Goes, GoesOrStops, MakesStep, PollsNext, PutsHome, StoresState, Turned, TurnedAt, asks_none}
+use Rattle.kn_mutator.specs.Turns.{EntersFor, Goes, GoesOrStops, MakesStep, PollsNext, PutsHome, StoresState, Turned, TurnedAt, asks_none}
 
 -- an allocator that agrees is at no sweep
 never_sweeps : (stage : Stage) (alloc : Keeps) (a : Stand) (here : ℕ → Bool) → AtStage stage alloc a here → IsSweeping stage → ⊥
@@ -45,15 +45,20 @@ module _ {T : Type 0} (stand : T → Stand) (here : T → ℕ → Bool) (did : T
   not_long : (stage : Stage) → IsGetting stage → stage ≡ stages.TooLong → ⊥
   not_long stage i e = let x : IsGetting stages.TooLong = subst IsGetting e i in x
 
+  one_entering : (target : Option ℕ) → EntersFor stand here did moved target told m s s' m' reply → OneTurn stand here did moved s s'
+  one_entering None h = one_poll h
+  one_entering (Some n) h = one_step h
+
   one_at : (t : Task) → AtTask t m (stand s).view → TurnedAt stand here did moved t told m s s' m' reply → OneTurn stand here did moved s s'
   one_at tasks.Out a h = one_step h
   one_at tasks.GoesIn a h = one_step h
-  one_at tasks.Enters a h = one_poll h
+  one_at tasks.Enters a h = one_entering m.target h
   one_at tasks.Polls a h = one_poll h
   one_at (tasks.Calls call hd) a h = one_step h
   one_at (tasks.Births call) a h =
       one_told stand here did moved m.alloc m'.alloc s s' h.told m.alloc.stage h.turned (not_long m.alloc.stage a.alloc)
   one_at (tasks.Writes r w) a h = one_step h
+  one_at tasks.Waits a h = one_step h
   one_at tasks.SendsSingle a h = sent_one h
   one_at tasks.Leaves a (inl h) = sent_one h
   one_at tasks.Leaves a (inr h) = stored_one 0 tasks.Out Moved h
@@ -65,14 +70,20 @@ module _ {T : Type 0} (stand : T → Stand) (here : T → ℕ → Bool) (did : T
   one g h = one_at m.task g.at h.1
 
   -- a turn that asks no gate is one whatever a gate says
+  told_entering : (target : Option ℕ) → EntersFor stand here did moved target asks_none m s s' m' reply →
+      EntersFor stand here did moved target told m s s' m' reply
+  told_entering None h = absurd h.asked
+  told_entering (Some n) h = h
+
   told_at : (t : Task) → TurnedAt stand here did moved t asks_none m s s' m' reply → TurnedAt stand here did moved t told m s s' m' reply
   told_at tasks.Out h = h
   told_at tasks.GoesIn h = h
-  told_at tasks.Enters h = absurd h.asked
+  told_at tasks.Enters h = told_entering m.target h
   told_at tasks.Polls h = absurd h.asked
   told_at (tasks.Calls call hd) h = h
   told_at (tasks.Births call) h = h
   told_at (tasks.Writes r w) h = h
+  told_at tasks.Waits h = h
   told_at tasks.SendsSingle h = h
   told_at tasks.Leaves h = h
   told_at tasks.Ends h = h

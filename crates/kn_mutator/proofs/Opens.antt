@@ -11,6 +11,7 @@ use Rattle.kn_graph.specs.Arguments.{IsInRange}
 use Rattle.kn_graph.specs.Counts.{births_among}
 use Rattle.kn_graph.specs.Ground.{Ground, IsGoodGround}
 use Rattle.kn_graph.specs.Logs.{calls_of}
+use Rattle.kn_rule.specs.Allowed.{IsBuilt}
 use Rattle.kn_rule.specs.Decoding.{phase_of}
 use Rattle.kn_rule.specs.Rule.{fresh}
 use Rattle.kn_rule.specs.Steps.{epoch_in}
@@ -21,7 +22,7 @@ use Rattle.kn_alloc.proofs.Agreements.{opens}
 use Rattle.kn_view.specs.Parts.{ground_of as ground_with}
 use Rattle.kn_layout.specs.declared.layouts.Layout.{Layout}
 use Rattle.kn_mutator.specs.Agree.{Agrees, HasAnswered, AtTask, Planned}
-use Rattle.kn_mutator.specs.Mutating.{IsMade, Mutating, first_task, new_mutating}
+use Rattle.kn_mutator.specs.Mutating.{Mutating, first_task, new_mutating}
 
 -- the count of a thread
 counts_at : (count : List Call → ℕ) (n : ℕ) (threads : List (List Call)) (i : ℕ) → i < n → i < length threads →
@@ -84,13 +85,13 @@ module _ (s : Scripted) (i : ℕ) (good : IsGoodScript s) (there : i < length s.
       let e = calls_are in
       omega arith
 
-  planned : AllByRecursion IsMade calls → Planned (ground_of s) i calls
+  planned : AllByRecursion IsBuilt calls → Planned (ground_of s) i calls
   planned built = record {
     good = good_ground;
     thread = near;
     calls_are = calls_are;
     births_are = births_are;
-    made = built;
+    built = built;
     in_range = All-at (AllByRecursion (IsInRange (ground_of s))) s.threads i [] good.calls tt;
   }
 
@@ -102,22 +103,19 @@ module _ (s : Scripted) (i : ℕ) (good : IsGoodScript s) (there : i < length s.
   }
 
   at_start : (calls : List Call) → AtTask (first_task calls) (new_mutating (ground_of s) i calls) (fresh (ground_of s))
-  at_start [] = (inr refl, record { answers = no_answers (new_mutating (ground_of s) i []) refl refl; alloc = tt }, refl)
-  at_start (call ∷ calls) = (
-    record { position = refl; answers = no_answers (new_mutating (ground_of s) i (call ∷ calls)) refl refl; alloc = refl },
-    omega arith,
-  )
+  at_start [] = (inr refl, record { answers = no_answers (new_mutating (ground_of s) i []) refl refl; untargeted = refl; alloc = tt }, refl)
+  at_start (call ∷ calls) =
+      record { position = refl; owes = (no_answers (new_mutating (ground_of s) i (call ∷ calls)) refl refl, omega arith); alloc = refl }
 
-  pub opened : AllByRecursion IsMade calls → (here : ℕ → Bool) →
+  pub opened : AllByRecursion IsBuilt calls → (here : ℕ → Bool) →
       Agrees (new_mutating (ground_of s) i calls) (record { heap = ground_of s; by = i; view = fresh (ground_of s) }) here
   opened built here = record {
     alloc = opens (ground_of s) i here good_ground near;
     heap = refl;
     caller = refl;
-    knows = record { locals = refl; epoch = epoch_at_start (ground_of s); log = refl; begun = refl };
+    knows = record { locals = refl; epoch = epoch_at_start (ground_of s); log = refl; begun = refl; target = refl };
     planned = planned built;
     births = refl;
-    target = refl;
     width = refl;
     addresses = λ r l. small_at LOCALS r;
     at = at_start calls;

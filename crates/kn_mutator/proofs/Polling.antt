@@ -19,7 +19,7 @@ use Rattle.kn_rule.specs.declared.positions.Position.{Position}
 use Rattle.kn_rule.specs.declared.positions.Position.TheVariants as positions
 use Rattle.kn_rule.specs.declared.steps.Action.TheVariants.{LoadsFor}
 use Rattle.kn_rule.specs.declared.steps.Kind.TheVariants.{K1}
-use Rattle.kn_rule.specs.Allowed.{MayBegin, MayNext, MayPoll, MayPollAt, MayEnterFor}
+use Rattle.kn_rule.specs.Allowed.{IsBuilt, MayBegin, MayNext, MayPoll, MayPollAt, MayEnterFor}
 use Rattle.kn_rule.specs.Decoding.{phase_of}
 use Rattle.kn_rule.specs.Outcomes.{begin_with, poll_at, poll_run, view_answer, with_call, enters_for}
 use Rattle.kn_rule.specs.Phases.{is_run, pauses}
@@ -32,11 +32,10 @@ use Rattle.kn_alloc.specs.Agree.{Agrees as AllocAgrees, HasBegun, IsIdle}
 use Rattle.kn_alloc.specs.Keeps.{Keeps}
 use Rattle.kn_mutator.specs.declared.task.Task.{Task}
 use Rattle.kn_mutator.specs.declared.task.Task.TheVariants.{Births, Calls, Enters, Leaves, Polls}
-use Rattle.kn_mutator.specs.Agree.{Agrees, AtTask, HasLeft, IsHeaderRead, IsObjectIn, Rests, UnderWay}
+use Rattle.kn_mutator.specs.Agree.{Agrees, AtTask, HasAnswered, HasLeft, IsHeaderRead, IsObjectIn, Owes, Rests, Stands, UnderWay}
 use Rattle.kn_mutator.specs.After.{answered, resting_task, said}
 use Rattle.kn_mutator.specs.Begun.{RequestsCell, alone}
-use Rattle.kn_mutator.proofs.Built.{made_built}
-use Rattle.kn_mutator.specs.Mutating.{IsMade, Knows, Mutating}
+use Rattle.kn_mutator.specs.Mutating.{Knows, Mutating}
 use Rattle.kn_mutator.specs.Tasks.{next_call}
 use Rattle.kn_mutator.proofs.Core.{addresses_made, agrees_then, all_get, alloc_then, answers_more, by_is, is_thread, rest_at, take_one_more}
 
@@ -97,15 +96,37 @@ nothing_read : (z : Ground) (field : Option (ℕ × ℕ × FieldKind)) → IsHea
 nothing_read z None = tt
 nothing_read z (Some t) = tt
 
+-- one that enters and wants no epoch has a call left to begin
+pub rests_entering : (m : Mutating) (v : View) (p : Position) → m.target ≡ None → Stands m v p → Rests m v p × HasLeft m
+rests_entering m v p none h =
+    let owes : HasAnswered m.log m.calls m.begun × HasLeft m = subst (Owes m) none h.owes in
+    (record { position = h.position; answers = owes.0; untargeted = none; alloc = h.alloc }, owes.1)
+
+-- one that was in or entering goes out behind a load of the phase
+module _ (m : Mutating) (a : Stand) (here : ℕ → Bool) (g : Agrees m a here) (owes : Owes m m.target) (idle : IsIdle m.alloc.stage)
+    (next : Option Call) (f : Found) (b : Stand) (here' : ℕ → Bool) (made : Made a here (does K1 Phase (LoadsFor next)) f b here') where
+  pub leaves_at : (at : Position) → ((at ≡ positions.Leaving) ⊎ (at ≡ positions.Entering)) →
+      b ≡ record a { view = record a.view { position = at } } → Agrees (record m { task = Leaves }) b here'
+  leaves_at at which view =
+      agrees_then m a here g idle b here' (record a.view { position = at }) view refl refl refl made.lies m.begun m.epoch m.locals Leaves m.log
+      (record { locals = g.knows.locals; epoch = g.knows.epoch; log = g.knows.log; begun = g.knows.begun; target = g.knows.target }) g.births g.width
+      (addresses_made a here (does K1 Phase (LoadsFor next)) f b here' made g.alloc.good (is_thread m a here g)) (which, owes, idle)
+
 module _ (m : Mutating) (a : Stand) (here : ℕ → Bool) (g : Agrees m a here) (p : Position)
     (ready : (p ≡ positions.Entering) ⊎ (p ≡ positions.Between)) (at : Rests m a.view p × HasLeft m) where
+  owes : Owes m m.target
+  owes = subst (Owes m) (sym at.0.untargeted) (at.0.answers, at.1)
+
+  free : a.view.target ≡ None
+  free = g.knows.target ∙ at.0.untargeted
+
   -- the poll is allowed
   may_begin : (call : Call) → slice_get m.calls m.begun ≡ Some call → MayBegin a.heap a.by a.view here call
   may_begin call e =
       let left : m.begun < length m.calls = at.1 in
       let births = births_after m.calls m.begun call e in
       record {
-        built = made_built call (all_get IsMade m.calls m.begun call g.planned.made e);
+        built = all_get IsBuilt m.calls m.begun call g.planned.built e;
         in_range = subst (λ z. Rattle.kn_graph.specs.Arguments.IsInRange z call) (sym g.heap)
             (all_get (Rattle.kn_graph.specs.Arguments.IsInRange m.heap) m.calls m.begun call g.planned.in_range e);
         call_left = subst (λ n. n < slice_index a.heap.sizes.calls a.by) (sym g.knows.begun)
@@ -130,8 +151,8 @@ module _ (m : Mutating) (a : Stand) (here : ℕ → Bool) (g : Agrees m a here) 
   may_at : (p ≡ positions.Entering) ⊎ (p ≡ positions.Between) → (next : Option Call) → MayNext a.heap a.by a.view here next →
       MayPollAt a.heap a.by a.view here p next
   may_at (inl e) next n =
-      subst (λ q. MayPollAt a.heap a.by a.view here q next) (sym e) (subst (λ t. MayEnterFor a.heap a.by a.view here t next) (sym g.target) n)
-  may_at (inr e) next n = subst (λ q. MayPollAt a.heap a.by a.view here q next) (sym e) (g.target, n)
+      subst (λ q. MayPollAt a.heap a.by a.view here q next) (sym e) (subst (λ t. MayEnterFor a.heap a.by a.view here t next) (sym free) n)
+  may_at (inr e) next n = subst (λ q. MayPollAt a.heap a.by a.view here q next) (sym e) (free, n)
 
   next_is : (passed : Bool) (call : Call) → next_call m passed ≡ Some call → slice_get m.calls m.begun ≡ Some call
   next_is true call e = e
@@ -161,29 +182,15 @@ module _ (m : Mutating) (a : Stand) (here : ℕ → Bool) (g : Agrees m a here) 
     idle = subst IsIdle (sym at.0.alloc) tt
 
     -- in no run phase it goes out
-    leaves_with : (u : View) → b ≡ record a { view = u } → u.owned ≡ a.view.owned → u.taken ≡ a.view.taken → u.sweep ≡ a.view.sweep →
-        Knows (record m { task = Leaves }) u → u.births ≡ births_among (take m.begun m.calls) → u.target ≡ None →
-        ((u.position ≡ positions.Leaving) ⊎ (u.position ≡ positions.Entering)) → Agrees (record m { task = Leaves }) b here'
-    leaves_with u view owned taken sweep knows births target position =
-        agrees_then m a here g idle b here' u view owned taken sweep made.lies m.begun m.epoch m.locals Leaves m.log knows births target g.width small (
-          position,
-          record {
-            answers = at.0.answers;
-            alloc = idle;
-          },
-          at.1,
-        )
-
     left_at : (p ≡ positions.Entering) ⊎ (p ≡ positions.Between) →
         b ≡ record a { view = logged (poll_at a.heap a.by a.view Phase (LoadsFor next) f p false next) } → Agrees (record m { task = Leaves }) b here'
     left_at (inl e) view =
-        leaves_with a.view (view ∙ λ t. record a { view = logged (poll_at a.heap a.by a.view Phase (LoadsFor next) f (e t) false next) }) refl refl
-        refl (record { locals = g.knows.locals; epoch = g.knows.epoch; log = g.knows.log; begun = g.knows.begun }) g.births g.target
-        (inr (at.0.position ∙ e))
+        leaves_at m a here g owes idle next f b here' made positions.Entering (inr refl)
+        (view ∙ ((λ t. record a { view = logged (poll_at a.heap a.by a.view Phase (LoadsFor next) f (e t) false next) })
+        ∙ λ t. record a { view = record a.view { position = (at.0.position ∙ e) t } }))
     left_at (inr e) view =
-        leaves_with (record a.view { position = positions.Leaving })
-        (view ∙ λ t. record a { view = logged (poll_at a.heap a.by a.view Phase (LoadsFor next) f (e t) false next) }) refl refl
-        refl (record { locals = g.knows.locals; epoch = g.knows.epoch; log = g.knows.log; begun = g.knows.begun }) g.births g.target (inl refl)
+        leaves_at m a here g owes idle next f b here' made positions.Leaving (inl refl)
+        (view ∙ λ t. record a { view = logged (poll_at a.heap a.by a.view Phase (LoadsFor next) f (e t) false next) })
 
     pub left : is_run (phase_of f.word).code ≡ false → Agrees (record m { task = Leaves }) b here'
     left e = left_at ready (polled_view false e)
@@ -193,7 +200,7 @@ module _ (m : Mutating) (a : Stand) (here : ℕ → Bool) (g : Agrees m a here) 
         b ≡ record a { view = logged (poll_run a.heap a.by a.view Phase (LoadsFor next) f next) }
     run_view (inl e) view =
         view ∙ ((λ t. record a { view = logged (poll_at a.heap a.by a.view Phase (LoadsFor next) f (e t) true next) })
-        ∙ λ t. record a { view = logged (enters_for a.heap a.by a.view Phase (LoadsFor next) f (g.target t) next) })
+        ∙ λ t. record a { view = logged (enters_for a.heap a.by a.view Phase (LoadsFor next) f (free t) next) })
     run_view (inr e) view = view ∙ λ t. record a { view = logged (poll_at a.heap a.by a.view Phase (LoadsFor next) f (e t) true next) }
 
     module _ (run : is_run (phase_of f.word).code ≡ true) (epoch : ℕ) (epoch_is : epoch ≡ pauses (phase_of f.word)) where
@@ -207,10 +214,11 @@ module _ (m : Mutating) (a : Stand) (here : ℕ → Bool) (g : Agrees m a here) 
           let e : b ≡ record a { view = u } =
           ran ∙ (λ t. record a { view = logged (poll_run a.heap a.by a.view Phase (LoadsFor next) f (none t)) }) in
           agrees_then m a here g idle b here' u e refl refl refl made.lies m.begun epoch m.locals Polls m.log
-          (record { locals = g.knows.locals; epoch = sym epoch_is; log = g.knows.log; begun = g.knows.begun }) g.births g.target g.width small (
+          (record { locals = g.knows.locals; epoch = sym epoch_is; log = g.knows.log; begun = g.knows.begun; target = g.knows.target }) g.births g.width small (
             record {
               position = refl;
               answers = at.0.answers;
+              untargeted = at.0.untargeted;
               alloc = at.0.alloc;
             },
             at.1,
@@ -261,8 +269,9 @@ module _ (m : Mutating) (a : Stand) (here : ℕ → Bool) (g : Agrees m a here) 
               epoch = epoch_then;
               log = λ t. (g.knows.log t) ++ entry_of (by_is m a here g t) (epoch_then t) call reply 0 ∷ [];
               begun = ap (λ n. n + 1) g.knows.begun;
+              target = g.knows.target;
             })
-            births_then g.target g.width small (rest_at (answered begun_one call reply) u refl answers at.0.alloc)
+            births_then g.width small (rest_at (answered begun_one call reply) u refl answers at.0.untargeted at.0.alloc)
 
         pub answered_between : (reply : Reply) → alone now call ≡ Some reply → b.view.position ≡ positions.Between
         answered_between reply e = ap (λ (x : Stand). x.view.position) (begun_view (Some reply) e)
@@ -276,17 +285,19 @@ module _ (m : Mutating) (a : Stand) (here : ℕ → Bool) (g : Agrees m a here) 
           epoch = epoch_then;
           log = g.knows.log;
           begun = ap (λ n. n + 1) g.knows.begun;
+          target = g.knows.target;
         }
 
         pub goes_on : alone now call ≡ None → makes_object call ≡ false → Agrees (record begun_one { task = Calls call None }) b here'
         goes_on e birth =
             agrees_then m a here g idle b here' calling (begun_view None e) refl refl refl made.lies (m.begun + 1) epoch m.locals (Calls call None)
-            m.log (record { locals = g.knows.locals; epoch = epoch_then; log = g.knows.log; begun = ap (λ n. n + 1) g.knows.begun })
-            births_then g.target g.width small
+            m.log (record { locals = g.knows.locals; epoch = epoch_then; log = g.knows.log; begun = ap (λ n. n + 1) g.knows.begun; target = g.knows.target })
+            births_then g.width small
             (record {
               position = refl;
               header = refl;
               no_birth = birth;
+              untargeted = at.0.untargeted;
               not_alone = e;
               under_way = under;
               alloc = at.0.alloc;
@@ -320,12 +331,12 @@ module _ (m : Mutating) (a : Stand) (here : ℕ → Bool) (g : Agrees m a here) 
               knows = subst (Knows new) (sym v) (knows_then task r.alloc);
               planned = g.planned;
               births = ap (λ (x : View). x.births) v ∙ births_then;
-              target = ap (λ (x : View). x.target) v ∙ g.target;
               width = g.width;
               addresses = λ q l. subst (λ l. slice_index l q ≤ 1000000) (ap (λ (x : View). x.locals) v ∙ g.knows.locals) (small q l);
               at = record {
                 position = ap (λ (x : View). x.position) v;
                 birth = r.birth;
+                untargeted = at.0.untargeted;
                 under_way = under;
                 alloc = r.gets;
               };
@@ -336,7 +347,8 @@ module _ (m : Mutating) (a : Stand) (here : ℕ → Bool) (g : Agrees m a here) 
   at_task : (t : Task) → m.task ≡ t → AtTask t m a.view
   at_task t e = subst (λ t. AtTask t m a.view) e g.at
 
-  pub may_poll_at : (m.task ≡ Enters) ⊎ (m.task ≡ Polls) → (passed : Bool) (next : Option Call) → next ≡ next_call m passed →
+  pub may_poll_at : ((m.task ≡ Enters) × (m.target ≡ None)) ⊎ (m.task ≡ Polls) → (passed : Bool) (next : Option Call) →
+      next ≡ next_call m passed →
       MayPoll a.heap a.by a.view here Phase (LoadsFor next)
-  may_poll_at (inl e) = may_poll m a here g positions.Entering (inl refl) (at_task Enters e)
+  may_poll_at (inl e) = may_poll m a here g positions.Entering (inl refl) (rests_entering m a.view positions.Entering e.1 (at_task Enters e.0))
   may_poll_at (inr e) = may_poll m a here g positions.Between (inr refl) (at_task Polls e)

@@ -19,7 +19,7 @@ use Rattle.kn_steps.specs.declared.turns.Turn.TheVariants.{Moved, Done}
 use Rattle.kn_alloc.specs.Agree.{IsIdle}
 use Rattle.kn_mutator.specs.declared.task.Task.{Task}
 use Rattle.kn_mutator.specs.declared.task.Task.TheVariants.{Out, GoesIn, Enters, Writes}
-use Rattle.kn_mutator.specs.Agree.{Agrees, AtTask, HasEnded, HasLeft, Rests}
+use Rattle.kn_mutator.specs.Agree.{Agrees, AtTask, HasEnded, Rests, Stands}
 use Rattle.kn_mutator.specs.After.{resting_task}
 use Rattle.kn_mutator.specs.Mutating.{Mutating}
 use Rattle.kn_mutator.specs.Tasks.{has_left, has_single, idle_at, is_wait, poll_for, task_at}
@@ -33,7 +33,7 @@ module _ (m : Mutating) (a : Stand) (here : ℕ → Bool) (g : Agrees m a here) 
 
   -- the store of the state by a caller that goes in
   module _ (is : m.task ≡ GoesIn) where
-    at_in : Rests m a.view positions.Out × HasLeft m
+    at_in : Stands m a.view positions.Out
     at_in = at_task GoesIn is
 
     pub may_go_in : MayStoreState a.heap a.by a.view here (StateOf m.by) (Stores 1)
@@ -44,7 +44,7 @@ module _ (m : Mutating) (a : Stand) (here : ℕ → Bool) (g : Agrees m a here) 
       word = refl;
       may = inl (
         is_thread m a here g,
-        subst (λ p. Rattle.kn_rule.specs.Allowed.MayGo a.heap a.by a.view here p 1) (sym at_in.0.position) (inl refl),
+        subst (λ p. Rattle.kn_rule.specs.Allowed.MayGo a.heap a.by a.view here p 1) (sym at_in.position) (inl refl),
       );
     }
 
@@ -52,32 +52,30 @@ module _ (m : Mutating) (a : Stand) (here : ℕ → Bool) (g : Agrees m a here) 
         Agrees (record m { task = Enters }) b here'
     unfolding at_in
     went_in f b here' made =
-        let r = at_in.0 in
+        let r = at_in in
         let u : View = record a.view { position = positions.Entering } in
         agrees_then m a here g (subst IsIdle (sym r.alloc) tt) b here' u made.view refl refl refl made.lies m.begun m.epoch m.locals Enters m.log
-        (record { locals = g.knows.locals; epoch = g.knows.epoch; log = g.knows.log; begun = g.knows.begun }) g.births g.target g.width
-        (addresses_made a here (does K2 (StateOf m.by) (Stores 1)) f b here' made g.alloc.good (is_thread m a here g)) (
-          record { position = refl; answers = r.answers; alloc = r.alloc },
-          at_in.1,
-        )
+        (record { locals = g.knows.locals; epoch = g.knows.epoch; log = g.knows.log; begun = g.knows.begun; target = g.knows.target }) g.births g.width
+        (addresses_made a here (does K2 (StateOf m.by) (Stores 1)) f b here' made g.alloc.good (is_thread m a here g))
+        (record { position = refl; owes = r.owes; alloc = r.alloc })
 
   -- a look at the phase by a caller that is out
   module _ (is : m.task ≡ Out) where
-    at_out : Rests m a.view positions.Out × HasLeft m
+    at_out : Stands m a.view positions.Out
     at_out = at_task Out is
 
     pub looked : (f : Found) (b : Stand) (here' : ℕ → Bool) → Made a here (poll_for None) f b here' → (task : Task) →
-        (Rests m a.view positions.Out × HasLeft m → AtTask task (record m { task = task }) a.view) → Agrees (record m { task = task }) b here'
+        (Stands m a.view positions.Out → AtTask task (record m { task = task }) a.view) → Agrees (record m { task = task }) b here'
     unfolding at_out
     looked f b here' made task at =
         let e : b ≡ record a { view = a.view } =
         made.view
         ∙ (λ t. record a {
-          view = logged (Rattle.kn_rule.specs.Outcomes.poll_at a.heap a.by a.view Phase (LoadsFor None) f (at_out.0.position t)
+          view = logged (Rattle.kn_rule.specs.Outcomes.poll_at a.heap a.by a.view Phase (LoadsFor None) f (at_out.position t)
               (is_run (phase_of f.word).code) None);
         }) in
-        agrees_then m a here g (subst IsIdle (sym at_out.0.alloc) tt) b here' a.view e refl refl refl made.lies m.begun m.epoch m.locals task m.log
-        (record { locals = g.knows.locals; epoch = g.knows.epoch; log = g.knows.log; begun = g.knows.begun }) g.births g.target g.width
+        agrees_then m a here g (subst IsIdle (sym at_out.alloc) tt) b here' a.view e refl refl refl made.lies m.begun m.epoch m.locals task m.log
+        (record { locals = g.knows.locals; epoch = g.knows.epoch; log = g.knows.log; begun = g.knows.begun; target = g.knows.target }) g.births g.width
         (addresses_made a here (poll_for None) f b here' made g.alloc.good (is_thread m a here g)) (at at_out)
 
   -- the store of a value that is due
@@ -93,9 +91,10 @@ module _ (m : Mutating) (a : Stand) (here : ℕ → Bool) (g : Agrees m a here) 
         let e : b ≡ record a { view = u } =
         made.view ∙ (λ t. record a { view = logged (write_at a.heap a.by a.view (Local m.by r) (Stores w) f (at_write.position t)) }) in (
           agrees_then m a here g (subst IsIdle (sym at_write.alloc) tt) b here' u e refl refl refl made.lies m.begun m.epoch m.locals (resting_task m)
-              m.log (record { locals = g.knows.locals; epoch = g.knows.epoch; log = g.knows.log; begun = g.knows.begun }) g.births g.target g.width
+              m.log (record { locals = g.knows.locals; epoch = g.knows.epoch; log = g.knows.log; begun = g.knows.begun; target = g.knows.target })
+              g.births g.width
               (addresses_made a here (does K3 (Local m.by r) (Stores w)) f b here' made g.alloc.good (is_thread m a here g))
-              (rest_at (record m { task = resting_task m }) u refl at_write.answers at_write.alloc),
+              (rest_at (record m { task = resting_task m }) u refl at_write.answers at_write.untargeted at_write.alloc),
           ap (λ (x : Stand). x.view.position) e,
         )
 
@@ -128,7 +127,7 @@ module _ {T : Type 0} (stand : T → Stand) (here : T → ℕ → Bool) (did : T
       let kept' : did s d f s' = subst (λ b. did s (does K2 (StateOf b) (Stores 1)) f s') e kept in
       let m' : Mutating = record m { task = Enters } in
       let agrees : Agrees m' (stand s') (here s') = went_in m (stand s) (here s) g is f (stand s') (here s') made' in
-      let entering : (stand s').view.position ≡ positions.Entering = agrees.at.0.position in
+      let entering : (stand s').view.position ≡ positions.Entering = agrees.at.position in
       subst (λ q. Goes stand here did moved asks_none m s s' q Moved) (sym is_q)
       (goes_by stand here did moved m s s' m' Moved asks_none GoesIn is
       (makes stand here did moved m s s' m' Moved GoesIn is d f refl made' kept'
@@ -149,7 +148,7 @@ module _ {T : Type 0} (stand : T → Stand) (here : T → ℕ → Bool) (did : T
         (answer ∙ ap (idle_at w) ew))
         refl refl refl agrees (not_done reply task (λ d. idle_goes_on w wait (sym answer ∙ d)) on)
 
-    at_here : Rests m (stand s).view positions.Out × HasLeft m
+    at_here : Stands m (stand s).view positions.Out
     at_here = subst (λ t. AtTask t m (stand s).view) is g.at
 
     pub looks_in : (run : Bool) → run ≡ is_run (phase_of w).code → run ≡ true → (m' : Mutating) → m' ≡ record m { task = GoesIn } →
@@ -157,14 +156,7 @@ module _ {T : Type 0} (stand : T → Stand) (here : T → ℕ → Bool) (did : T
     looks_in run e is_so m' em =
         let ran = sym e ∙ is_so in
         subst (λ (q : Mutating). Goes stand here did moved asks_none m s s' q Moved) (sym em)
-        (looked_as GoesIn (
-          record {
-            position = at_here.0.position;
-            answers = at_here.0.answers;
-            alloc = at_here.0.alloc;
-          },
-          at_here.1,
-        )
+        (looked_as GoesIn (record { position = at_here.position; owes = at_here.owes; alloc = at_here.alloc })
         (sym (ap (λ q. cond q GoesIn Out) ran)) (λ x. x) false (sym (run_is_no_wait (phase_of w).code ran)) Moved refl)
 
     pub stays_out : (run : Bool) → run ≡ is_run (phase_of w).code → run ≡ false → (wait : Bool) → wait ≡ is_wait (phase_of w).code →
@@ -173,14 +165,7 @@ module _ {T : Type 0} (stand : T → Stand) (here : T → ℕ → Bool) (did : T
         let ran = sym e ∙ is_not in
         let same : record m { task = Out } ≡ m = λ t. record m { task = sym is t } in
         subst (λ (q : Mutating). Goes stand here did moved asks_none m s s' q reply) same
-        (looked_as Out (
-          record {
-            position = at_here.0.position;
-            answers = at_here.0.answers;
-            alloc = at_here.0.alloc;
-          },
-          at_here.1,
-        )
+        (looked_as Out (record { position = at_here.position; owes = at_here.owes; alloc = at_here.alloc })
         (sym (ap (λ q. cond q GoesIn Out) ran)) (λ x. x) wait ew reply er)
 
   pub writes : (r w : ℕ) → m.task ≡ Writes r w → (by : ℕ) → by ≡ m.by → (v : ℕ) → v ≡ w → (f : Found) →

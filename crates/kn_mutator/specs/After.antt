@@ -3,16 +3,19 @@ use Rattle.std.specs.Prelude.{ℕ, Bool, true, false, cond, List, [], ◌∷◌,
 use Rattle.kn_layout.specs.declared.layouts.FieldKind.{FieldKind}
 use Rattle.kn_layout.specs.declared.layouts.FieldKind.TheVariants.{Ref, Int}
 use Rattle.kn_graph.specs.declared.calls.Call.{Call}
+use Rattle.kn_graph.specs.declared.calls.Call.TheVariants.{Collect}
 use Rattle.kn_graph.specs.declared.calls.Reply.{Reply}
 use Rattle.kn_graph.specs.declared.calls.Reply.TheVariants as replies
 use Rattle.kn_graph.specs.declared.entries.Entry.{Entry}
+use Rattle.kn_rule.specs.Decoding.{phase_of}
 use Rattle.kn_rule.specs.Outcomes.{ref_word}
+use Rattle.kn_rule.specs.Phases.{pauses}
 use Rattle.kn_rule.specs.Requests.{field_of, told_kind}
 use Rattle.kn_rule.specs.Steps.{entry_of}
 use Rattle.kn_mutator.specs.declared.task.Task.{Task}
 use Rattle.kn_mutator.specs.declared.task.Task.TheVariants.{Calls, Writes}
 use Rattle.kn_mutator.specs.Mutating.{Mutating}
-use Rattle.kn_mutator.specs.Tasks.{has_left, has_single, rest_task}
+use Rattle.kn_mutator.specs.Tasks.{has_left, has_single, is_done, rest_task}
 
 -- the log with a call answered
 abbrev pub said : Mutating → Call → Reply → ℕ → List Entry
@@ -56,3 +59,15 @@ judged_for m call h (Some t) = judged_as m call h t.2 (told_kind m.heap h t.1)
 
 abbrev pub judged : Mutating → Call → ℕ → Mutating
 judged m call h = judged_for m call h (field_of call)
+
+-- the epoch n was wanted, and is done at the phase word w: its `gc` is answered
+abbrev pub told_epoch : Mutating → ℕ → ℕ → Mutating
+told_epoch m n w = record m {
+  target = None;
+  log = m.log ++ entry_of m.by (pauses (phase_of w)) Collect (replies.Epoch n) 0 ∷ [];
+  task = resting_task m;
+}
+
+-- the epoch n is wanted where the phase word is w: its `gc` is answered where it is done, and else the task is this one
+abbrev pub awaited : Mutating → ℕ → ℕ → Task → Mutating
+awaited m n w task = cond (is_done n w) (told_epoch m n w) (record m { task = task })

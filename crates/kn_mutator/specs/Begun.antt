@@ -1,5 +1,5 @@
 -- A call that begins, and a birth that is made.
-use Rattle.std.specs.Prelude.{◌≡◌, ℕ, ◌+◌, ◌≤◌, Bool, true, false, Option, Some, None}
+use Rattle.std.specs.Prelude.{◌≡◌, ℕ, ◌+◌, ◌≤◌, Bool, true, false, not, Option, Some, None}
 use Rattle.kn_base.specs.declared.places.Place.TheVariants.{Phase}
 use Rattle.kn_base.specs.declared.classes.TheConstants.{LEAST_CELL}
 use Rattle.kn_graph.specs.declared.calls.Call.{Call}
@@ -17,9 +17,10 @@ use Rattle.kn_steps.specs.declared.turns.Turn.TheVariants.{Idle, Moved}
 use Rattle.kn_alloc.specs.declared.stage.Request.{Request}
 use Rattle.kn_alloc.specs.Agree.{Agrees as AllocAgrees, HasBegun, IsGetting}
 use Rattle.kn_alloc.specs.Keeps.{IsHeaderOf, Keeps, Starts, header_asked, words_of_request}
-use Rattle.kn_mutator.specs.declared.task.Task.TheVariants.{Births, Calls, Leaves, Polls}
+use Rattle.kn_mutator.specs.declared.task.Task.TheVariants.{Births, Calls, Leaves, Polls, Waits}
 use Rattle.kn_mutator.specs.Mutating.{Mutating}
-use Rattle.kn_mutator.specs.After.{answered, born}
+use Rattle.kn_mutator.specs.Tasks.{idle_at, is_done}
+use Rattle.kn_mutator.specs.After.{answered, awaited, born}
 
 -- what a view with the locals that are kept alone answers
 abbrev pub alone : Mutating → Call → Option Reply
@@ -72,3 +73,8 @@ HearsAs m true (Some call) w m' reply = Begins (record m { epoch = pauses (phase
 
 abbrev pub Hears : Mutating → Option Call → ℕ → Mutating → Turn → Type 0
 Hears m next w m' reply = HearsAs m (is_run (phase_of w).code) next w m' reply
+
+-- the word w of a run phase was polled by one that wants the epoch n
+abbrev pub WaitsIn : Mutating → ℕ → ℕ → Mutating → Turn → Type 0
+WaitsIn m n w m' reply =
+    (m' ≡ awaited (record m { epoch = pauses (phase_of w) }) n w Waits) × (reply ≡ idle_at w (not (is_done n w)))

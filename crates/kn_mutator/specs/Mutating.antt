@@ -1,34 +1,28 @@
 -- What a mutator keeps.
-use Rattle.std.specs.Prelude.{◌≡◌, ℕ, List, [], ◌∷◌, replicate}
+use Rattle.std.specs.Prelude.{◌≡◌, ℕ, List, [], ◌∷◌, Option, None, replicate}
 use Rattle.kn_base.specs.declared.limits.TheConstants.{LOCALS}
 use Rattle.kn_graph.specs.declared.calls.Call.{Call}
-use Rattle.kn_graph.specs.declared.calls.Call.TheVariants.{Collect}
 use Rattle.kn_graph.specs.declared.entries.Entry.{Entry}
 use Rattle.kn_graph.specs.Ground.{Ground}
 use Rattle.kn_rule.specs.Steps.{epoch_in}
-use Rattle.kn_rule.specs.Allowed.{IsBuilt}
 use Rattle.kn_rule.specs.Views.{View}
 use Rattle.kn_alloc.specs.Keeps.{Keeps, new_keeps}
 use Rattle.kn_mutator.specs.declared.task.Task.{Task}
 use Rattle.kn_mutator.specs.declared.task.Task.TheVariants.{Out, Ends}
 
 -- over a heap of these sizes and layouts: the number of its thread and the thread's calls, how many of them it has begun, the
--- epoch of its last poll, its locals, what it does next, its allocator, and its log
+-- epoch of its last poll, the epoch that its `gc` waits for, its locals, what it does next, its allocator, and its log
 pub record Mutating : Type 0 where
   pub heap : Ground
   pub by : ℕ
   pub calls : List Call
   pub begun : ℕ
   pub epoch : ℕ
+  pub target : Option ℕ
   pub locals : List ℕ
   pub task : Task
   pub alloc : Keeps
   pub log : List Entry
-
--- the calls that a mutator makes: those that are built but `gc`, for whose epoch it does not wait
-abbrev pub IsMade : Call → Type 0
-IsMade Collect = ⊥
-IsMade call = IsBuilt call
 
 -- a thread without calls ends at once
 abbrev pub first_task : List Call → Task
@@ -43,6 +37,7 @@ new_mutating z c calls = record {
   calls = calls;
   begun = 0;
   epoch = 0;
+  target = None;
   locals = replicate LOCALS 0;
   task = first_task calls;
   alloc = new_keeps z.sizes c;
@@ -55,3 +50,4 @@ pub record Knows (m : Mutating) (v : View) : Type 0 where
   pub epoch : epoch_in v ≡ m.epoch
   pub log : v.log ≡ m.log
   pub begun : v.calls ≡ m.begun
+  pub target : v.target ≡ m.target

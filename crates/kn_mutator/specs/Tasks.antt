@@ -1,18 +1,18 @@
 -- What a mutator does next: the step of each task, and the task behind it.
-use Rattle.std.specs.Prelude.{ℕ, ◌+◌, Bool, true, false, cond, List, length, Option, Some, None, is_some, nat_lt, slice_get, slice_index}
+use Rattle.std.specs.Prelude.{ℕ, ◌+◌, Bool, true, false, cond, List, length, Option, Some, None, is_some, nat_le, nat_lt, slice_get, slice_index}
 use Rattle.kn_base.specs.declared.classes.TheConstants.{SINGLE_CLASS}
 use Rattle.kn_base.specs.declared.kinds.Code.{Code}
 use Rattle.kn_base.specs.declared.kinds.Code.TheVariants as codes
-use Rattle.kn_base.specs.declared.places.Place.TheVariants.{Phase, State, Local, Global, Body}
+use Rattle.kn_base.specs.declared.places.Place.TheVariants.{Phase, Want, State, Local, Global, Body}
 use Rattle.kn_graph.specs.declared.calls.Call.{Call}
-use Rattle.kn_graph.specs.declared.calls.Call.TheVariants.{Copy, Clear, Get, Set, Put, Read, GlobalSet, GlobalGet}
+use Rattle.kn_graph.specs.declared.calls.Call.TheVariants.{Copy, Clear, Get, Set, Put, Read, GlobalSet, GlobalGet, Collect}
 use Rattle.kn_graph.specs.Counts.{makes_object}
-use Rattle.kn_rule.specs.declared.steps.Kind.TheVariants.{K1, K2, K3, K4, K5, K6, K7}
-use Rattle.kn_rule.specs.declared.steps.Action.TheVariants.{Loads, LoadsFor, Stores}
+use Rattle.kn_rule.specs.declared.steps.Kind.TheVariants.{K1, K2, K3, K4, K5, K6, K7, K13}
+use Rattle.kn_rule.specs.declared.steps.Action.TheVariants.{Loads, LoadsFor, Stores, Raises}
 use Rattle.kn_rule.specs.declared.positions.Position.{Position}
 use Rattle.kn_rule.specs.declared.positions.Position.TheVariants as positions
 use Rattle.kn_rule.specs.Decoding.{phase_of}
-use Rattle.kn_rule.specs.Phases.{is_run}
+use Rattle.kn_rule.specs.Phases.{is_run, last_done}
 use Rattle.kn_rule.specs.Steps.{Step, does}
 use Rattle.kn_rule.specs.Views.{View, flattened}
 use Rattle.kn_steps.specs.declared.turns.Turn.{Turn}
@@ -21,29 +21,31 @@ use Rattle.kn_alloc.specs.declared.stage.Hand.{Hand}
 use Rattle.kn_alloc.specs.declared.stage.Stage.{Stage}
 use Rattle.kn_alloc.specs.declared.stage.Stage.TheVariants.{Resting}
 use Rattle.kn_mutator.specs.declared.task.Task.{Task}
-use Rattle.kn_mutator.specs.declared.task.Task.TheVariants.{Out, GoesIn, Enters, Polls, Calls, Births, Writes, SendsSingle, Leaves, Ends, Ended}
+use Rattle.kn_mutator.specs.declared.task.Task.TheVariants.{Out, GoesIn, Enters, Polls, Calls, Births, Writes, Waits}
+use Rattle.kn_mutator.specs.declared.task.Task.TheVariants.{SendsSingle, Leaves, Ends, Ended}
 use Rattle.kn_mutator.specs.Mutating.{Mutating}
 
 -- the call that is begun next, where the gate lets it pass
 abbrev pub next_call : Mutating → Bool → Option Call
 next_call m passed = cond passed (slice_get m.calls m.begun) None
 
--- the step that a call makes next, for the locals of thread c and the header that was read; none of a call whose cell is to be
+-- the step that a call makes next, for the epoch and the locals of thread c and the header that was read; none of a call whose cell is to be
 -- got, or that the poll answers
-abbrev pub call_step : ℕ → (ℕ → ℕ) → Call → Option ℕ → Option Step
-call_step c local (Copy r s) h = Some (does K3 (Local c r) (Stores (local s)))
-call_step c local (Clear r) h = Some (does K3 (Local c r) (Stores 0))
-call_step c local (Get r s i) None = Some (does K4 (Body (local s)) Loads)
-call_step c local (Get r s i) (Some h) = Some (does K4 (Body (local s + 1 + i)) Loads)
-call_step c local (Set s i r) None = Some (does K4 (Body (local s)) Loads)
-call_step c local (Set s i r) (Some h) = Some (does K5 (Body (local s + 1 + i)) (Stores (local r)))
-call_step c local (Put s i n) None = Some (does K4 (Body (local s)) Loads)
-call_step c local (Put s i n) (Some h) = Some (does K5 (Body (local s + 1 + i)) (Stores n))
-call_step c local (Read s i) None = Some (does K4 (Body (local s)) Loads)
-call_step c local (Read s i) (Some h) = Some (does K4 (Body (local s + 1 + i)) Loads)
-call_step c local (GlobalSet i r) h = Some (does K7 (Global i) (Stores (local r)))
-call_step c local (GlobalGet r i) h = Some (does K6 (Global i) Loads)
-call_step c local _ h = None
+abbrev pub call_step : ℕ → ℕ → (ℕ → ℕ) → Call → Option ℕ → Option Step
+call_step c e local (Copy r s) h = Some (does K3 (Local c r) (Stores (local s)))
+call_step c e local (Clear r) h = Some (does K3 (Local c r) (Stores 0))
+call_step c e local (Get r s i) None = Some (does K4 (Body (local s)) Loads)
+call_step c e local (Get r s i) (Some h) = Some (does K4 (Body (local s + 1 + i)) Loads)
+call_step c e local (Set s i r) None = Some (does K4 (Body (local s)) Loads)
+call_step c e local (Set s i r) (Some h) = Some (does K5 (Body (local s + 1 + i)) (Stores (local r)))
+call_step c e local (Put s i n) None = Some (does K4 (Body (local s)) Loads)
+call_step c e local (Put s i n) (Some h) = Some (does K5 (Body (local s + 1 + i)) (Stores n))
+call_step c e local (Read s i) None = Some (does K4 (Body (local s)) Loads)
+call_step c e local (Read s i) (Some h) = Some (does K4 (Body (local s + 1 + i)) Loads)
+call_step c e local (GlobalSet i r) h = Some (does K7 (Global i) (Stores (local r)))
+call_step c e local (GlobalGet r i) h = Some (does K6 (Global i) Loads)
+call_step c e local Collect h = Some (does K13 Want (Raises (e + 1)))
+call_step c e local _ h = None
 
 abbrev pub local_kept : Mutating → ℕ → ℕ
 local_kept m r = slice_index m.locals r
@@ -52,12 +54,14 @@ local_kept m r = slice_index m.locals r
 abbrev pub poll_for : Option Call → Step
 poll_for next = does K1 Phase (LoadsFor next)
 
--- the step of a task that asks nothing of a gate and of the allocator
+-- the step of a task where it asks nothing of a gate and of the allocator; one that enters asks no gate where it wants an epoch
 abbrev pub task_step : Mutating → Task → Option Step
 task_step m Out = Some (poll_for None)
 task_step m GoesIn = Some (does K2 (State m.by) (Stores 1))
-task_step m (Calls call h) = call_step m.by (local_kept m) call h
+task_step m Enters = Some (poll_for None)
+task_step m (Calls call h) = call_step m.by m.epoch (local_kept m) call h
 task_step m (Writes r w) = Some (does K3 (Local m.by r) (Stores w))
+task_step m Waits = Some (poll_for None)
 task_step m _ = None
 
 -- a page for a single object is in hand
@@ -85,6 +89,7 @@ task_at left single h positions.Entering = Enters
 task_at left single h positions.Between = rest_task left single
 task_at left single h (positions.Calling call) = calling_task (makes_object call) call h
 task_at left single h (positions.Writing r w n) = Writes r w
+task_at left single h positions.Waiting = Waits
 task_at left single h positions.Leaving = Leaves
 task_at left single h _ = Ended
 
@@ -97,9 +102,10 @@ abbrev pub polled_task : Bool → ℕ → Mutating → View → Task
 polled_task passed w m v = cond (is_run (phase_of w).code) (cond passed (task_by m v) Polls) Leaves
 
 -- the task behind a step that found the word w, where the mutator is m and its view v behind it; a caller that is out goes in
--- where it found a run phase
+-- where it found a run phase, and one that enters goes out where it found no run phase
 abbrev pub task_behind : Task → ℕ → Mutating → View → Task
 task_behind Out w m v = cond (is_run (phase_of w).code) GoesIn Out
+task_behind Enters w m v = cond (is_run (phase_of w).code) (task_by m v) Leaves
 task_behind _ w m v = task_by m v
 
 -- a caller that is out waits in these phases
@@ -117,10 +123,21 @@ idle_at w false = Moved
 abbrev pub polled_answer : Bool → ℕ → Turn
 polled_answer passed w = cond passed Moved (idle_at w (is_run (phase_of w).code))
 
--- what the turn of such a task answers: it is idle where a caller that is out waits
-abbrev pub answer_behind : Task → ℕ → Turn
-answer_behind Out w = idle_at w (is_wait (phase_of w).code)
-answer_behind _ w = Moved
+-- the epoch n is done at the phase word w
+abbrev pub is_done : ℕ → ℕ → Bool
+is_done n w = nat_le n (last_done (phase_of w))
+
+-- one that wants an epoch waits on in a run phase where that epoch is not done
+abbrev pub waits_on : Option ℕ → ℕ → Bool
+waits_on None w = false
+waits_on (Some n) w = cond (is_done n w) false (is_run (phase_of w).code)
+
+-- what the turn of such a task answers: it is idle where a caller that is out waits, and where a target is waited for on
+abbrev pub answer_behind : Task → Option ℕ → ℕ → Turn
+answer_behind Out target w = idle_at w (is_wait (phase_of w).code)
+answer_behind Enters target w = idle_at w (waits_on target w)
+answer_behind Waits target w = idle_at w (waits_on target w)
+answer_behind _ target w = Moved
 
 -- a single page is home where its frame was given back
 abbrev pub single_task : Stage → Task

@@ -1,5 +1,5 @@
 -- One turn of a mutator over its caller's steps.
-use Rattle.std.specs.Prelude.{◌≡◌, ℕ, ◌⊎◌, ◌↔◌, Bool, true, Option, Some}
+use Rattle.std.specs.Prelude.{◌≡◌, ℕ, ◌⊎◌, ◌↔◌, Bool, true, Option, Some, None}
 use Rattle.kn_base.specs.declared.places.Place.TheVariants.{State}
 use Rattle.kn_base.specs.Pages.{FrameView}
 use Rattle.kn_graph.specs.Ground.{Ground}
@@ -56,7 +56,7 @@ module _ {T : Type 0} (stand : T → Stand) (here : T → ℕ → Bool) (did : T
     pub kept : did s step found s'
     pub task : m'.task ≡ task_behind m.task found.word m' (stand s').view
     pub alloc : m'.alloc ≡ m.alloc
-    pub answer : reply ≡ answer_behind m.task found.word
+    pub answer : reply ≡ answer_behind m.task m.target found.word
 
   -- the gate was asked for the call that begins next (`told` is what it said of a thread's call), and the phase was loaded
   -- for that call where it lets it pass, and else for none
@@ -94,10 +94,15 @@ module _ {T : Type 0} (stand : T → Stand) (here : T → ℕ → Bool) (did : T
     pub behind : m'.task ≡ task
     pub answer : reply ≡ told
 
+  -- one that enters polls for the next call, unless it wants an epoch, where it makes the step of its task and asks no gate
+  abbrev pub EntersFor : Option ℕ → (ℕ → ℕ → Bool → Type 0) → Mutating → T → T → Mutating → Turn → Type 0
+  EntersFor None told m s s' m' reply = PollsNext told m s s' m' reply
+  EntersFor (Some n) told m s s' m' reply = MakesStep m s s' m' reply
+
   -- the turn of a task: its step; a poll; a turn of the allocator; or pages go home, one after another, and then the state is
   -- stored
   abbrev pub TurnedAt : Task → (ℕ → ℕ → Bool → Type 0) → Mutating → T → T → Mutating → Turn → Type 0
-  TurnedAt Enters told m s s' m' reply = PollsNext told m s s' m' reply
+  TurnedAt Enters told m s s' m' reply = EntersFor m.target told m s s' m' reply
   TurnedAt Polls told m s s' m' reply = PollsNext told m s s' m' reply
   TurnedAt (Births call) told m s s' m' reply = GetsCell m s s' m' reply
   TurnedAt SendsSingle told m s s' m' reply = PutsHome m s s' m' reply

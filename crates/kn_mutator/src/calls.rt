@@ -52,6 +52,7 @@ impl Mutator {
             },
             Call::GlobalSet(i, r) => self.sets_global(steps, i, r),
             Call::GlobalGet(r, i) => self.gets_global(steps, r, i),
+            Call::Collect => self.collects(steps),
             _ => unreachable!(),
         }
     }

@@ -1,15 +1,17 @@
 //! The mutator, and its turns in and out.
-ghost use Rattle.std.specs.Prelude.{◌≡◌, ℕ, ◌<◌, ◌↔◌, [], Bool, IfOk, IsTrue, length, slice_index, slice_index_or};
+ghost use Rattle.std.specs.Prelude.{◌≡◌, ℕ, ◌<◌, ◌↔◌, [], ◌∷◌, ◌++◌, Bool, IfOk, IsTrue, length, slice_index, slice_index_or};
 ghost use Rattle.std.specs.List.{AllByRecursion};
 ghost use Rattle.kn_rule.specs.Decoding.{phase_of};
+ghost use Rattle.kn_rule.specs.Allowed.{IsBuilt};
 ghost use Rattle.kn_rule.specs.Rule.{fresh};
+ghost use Rattle.kn_rule.specs.Steps.{entry_of};
 ghost use Rattle.kn_steps.specs.Turns.{MetUnswept, OneTurn};
 ghost use Rattle.kn_steps.specs.declared.turns.Turn.TheVariants.{Done};
 ghost use Rattle.kn_script.specs.Good.{IsGoodScript};
 ghost use Rattle.kn_script.specs.Scripts.{ground_of};
 ghost use Rattle.kn_alloc.specs.Agree.{IsSweeping};
 ghost use Rattle.kn_mutator.specs.declared.task.Task.TheVariants.{Out, GoesIn, Writes};
-ghost use Rattle.kn_mutator.specs.Mutating.{IsMade, new_mutating};
+ghost use Rattle.kn_mutator.specs.Mutating.{new_mutating};
 ghost use Rattle.kn_mutator.specs.Tasks;
 ghost use Rattle.kn_mutator.specs.After.{answered, assigned, referred, resting_task, said};
 ghost use Rattle.kn_mutator.specs.Agree.{Agrees, HasEnded};
@@ -38,6 +40,7 @@ pub struct Mutator {
     calls: Vec<Call>,
     pub(crate) begun: u32,
     pub(crate) epoch: u32,
+    pub(crate) target: Option<u64>,
     pub(crate) locals: [u32; 16],
     pub(crate) task: Task,
     pub(crate) allocator: ThreadAlloc,
@@ -59,6 +62,7 @@ impl Model for Mutator {
       calls = m.calls.items;
       begun = m.begun;
       epoch = m.epoch;
+      target = m.target;
       locals = m.locals;
       task = m.task;
       alloc = m.allocator;
@@ -75,7 +79,7 @@ impl Mutator {
     pub fn open(alloc: Global, script: &Script, i: u8) -> Result<Mutator, AllocError>
         requires good { IsGoodScript script.now }
         requires thread { i < length script.now.threads }
-        requires made { AllByRecursion IsMade (slice_index_or script.now.threads i []) }
+        requires built { AllByRecursion IsBuilt (slice_index_or script.now.threads i []) }
         ensures new { IfOk result (λ m. m ≡ new_mutating (ground_of script.now) i (slice_index_or script.now.threads i [])) }
         ensures agrees { IfOk result (λ m. (here : ℕ → Bool) →
             Agrees m (record { heap = ground_of script.now; by = i; view = fresh (ground_of script.now) }) here) }
@@ -90,6 +94,7 @@ impl Mutator {
             calls,
             begun: 0,
             epoch: 0,
+            target: None,
             locals: [0; 16],
             allocator: ThreadAlloc::open(alloc, &script.sizes, Caller(i))?,
             log,
@@ -97,9 +102,11 @@ impl Mutator {
     }
 
     /// Makes the next step of the task, or moves a page (`Turned` in `specs/Turns.antt`). It must not have
-    /// ended. A poll asks the gate for the call that would begin next, by its number. `Idle` where it is out
-    /// and the phase is one in which callers wait (`is_wait`), or where the gate let no call pass; `Done` in
-    /// the turn that stores that it has ended. Behind a turn that met an unswept frame and left its
+    /// ended. A poll asks the gate for the call that would begin next, by its number. A `gc` raises the epoch
+    /// wanted, and then loads the phase turn by turn until that epoch is done; on its way out and in it keeps
+    /// its target, and asks no gate. `Idle` where it is out and the phase is one in which callers wait
+    /// (`is_wait`), where the gate let no call pass, or where it goes on waiting in a run phase (`waits_on`);
+    /// `Done` in the turn that stores that it has ended. Behind a turn that met an unswept frame and left its
     /// allocator at a sweep it makes no more.
     #[inline(always)]
     pub fn turn<T: Steps<Page>, G: Gate>(&mut self, steps: &mut T, gate: &G) -> Turn
@@ -122,11 +129,12 @@ impl Mutator {
         match self.task {
             Task::Out => self.looks(steps),
             Task::GoesIn => self.goes_in(steps),
-            Task::Enters => self.polls(steps, gate),
+            Task::Enters => self.enters(steps, gate),
             Task::Polls => self.polls(steps, gate),
             Task::Calls(call, header) => self.calls_at(steps, call, header),
             Task::Births(call) => self.gets_cell(steps, call),
             Task::Writes(local, value) => self.writes(steps, local, value),
+            Task::Waits => self.waits(steps),
             Task::SendsSingle => self.sends_single(steps),
             Task::Leaves => self.leaves(steps),
             Task::Ends => self.ends(steps),
@@ -166,7 +174,7 @@ impl Mutator {
             self.goes_to(Task::GoesIn);
             Turn::Moved
         } else {
-            idle_at(word, waits(word))
+            idle_at(word, is_wait(word))
         }
     }
 
@@ -223,14 +231,23 @@ impl Mutator {
         };
     }
 
-    // A call is answered.
+    // A call is answered in the epoch of the last poll.
     pub(crate) fn says(&mut self, call: Call, reply: Reply, address: u32)
         requires { length self.old.log < length self.old.calls }
         ensures { self.new ≡ record self.old { log = said self.old call reply address } }
     {
+        let epoch = self.epoch;
+        self.says_in(epoch, call, reply, address);
+    }
+
+    // A call is answered in an epoch.
+    pub(crate) fn says_in(&mut self, epoch: u32, call: Call, reply: Reply, address: u32)
+        requires { length self.old.log < length self.old.calls }
+        ensures { self.new ≡ record self.old { log = self.old.log ++ entry_of self.old.by epoch call reply address ∷ [] } }
+    {
         let entry = Entry {
             by: Caller(self.by),
-            epoch: self.epoch,
+            epoch,
             what: Event::Call(call, reply, address),
         };
         if self.log.push(entry).is_err() {
@@ -289,7 +306,7 @@ fn first_task(calls: &[Call]) -> Task
 }
 
 // Whether a caller that is out waits in the phase of a word.
-fn waits(word: u64) -> bool
+fn is_wait(word: u64) -> bool
     ensures { result ≡ Tasks.is_wait (phase_of word).code }
 {
     let code = word % 8;
@@ -302,7 +319,7 @@ fn waits(word: u64) -> bool
     }
 }
 
-fn idle_at(word: u64, idle: bool) -> Turn
+pub(crate) fn idle_at(word: u64, idle: bool) -> Turn
     ensures { result ≡ Tasks.idle_at word idle }
 {
     if idle {

@@ -1,5 +1,5 @@
 //! Polls, and what begins behind them.
-ghost use Rattle.std.specs.Prelude.{◌≡◌, ℕ, ◌<◌, ◌≤◌, ◌^◌, ◌⊎◌, Bool, Some, length};
+ghost use Rattle.std.specs.Prelude.{◌≡◌, ℕ, ◌<◌, ◌≤◌, ◌^◌, ◌⊎◌, Bool, Some, None, length};
 ghost use Rattle.kn_layout.specs.Layouts.{cell_size};
 ghost use Rattle.kn_graph.specs.Arguments.{IsInRange};
 ghost use Rattle.kn_graph.specs.Graph.{length_for};
@@ -30,7 +30,7 @@ impl Mutator {
     // another phase the mutator goes out.
     pub(crate) fn polls<T: Steps<Page>, G: Gate>(&mut self, steps: &mut T, gate: &G) -> Turn
         requires agrees { Agrees self.old (T.stand steps.old) (T.here steps.old) }
-        requires task { (self.old.task ≡ Enters) ⊎ (self.old.task ≡ Polls) }
+        requires task { ((self.old.task ≡ Enters) × (self.old.target ≡ None)) ⊎ (self.old.task ≡ Polls) }
         ensures { Goes T.stand T.here T.did T.moved (G.told gate.now) self.old steps.old steps.new self.new result }
     {
         let passed = gate.pass(self.by, self.begun);
@@ -78,7 +78,7 @@ impl Mutator {
         }
     }
 
-    fn polled_in(&mut self, epoch: u32)
+    pub(crate) fn polled_in(&mut self, epoch: u32)
         ensures { self.new ≡ record self.old { epoch = epoch } }
     {
         self.epoch = epoch;

@@ -7,7 +7,7 @@ pub enum Task {
     Out,
     /// It is out behind a run phase, and stores that it is in.
     GoesIn,
-    /// It is entering, and loads the phase for its next call.
+    /// It is entering, and loads the phase for its next call, or for the epoch that it waits for.
     Enters,
     /// It is between calls, and loads the phase for its next call.
     Polls,
@@ -17,6 +17,8 @@ pub enum Task {
     Births(Call),
     /// A value is due for a local: the local, the value.
     Writes(u8, u32),
+    /// It waits for the epoch of a `gc`, and loads the phase.
+    Waits,
     /// A page for a single object goes home before the next call.
     SendsSingle,
     /// Its pages go home, and then it is out.

@@ -10,7 +10,7 @@ mod logs;
 mod texts;
 
 pub use logs::Log;
-pub use texts::report;
+pub use texts::{push_count, push_threads, report};
 
 #[cfg(test)]
 mod tests;

@@ -26,7 +26,8 @@ fn push_thread(text: &mut String, thread: usize, log: &[Entry]) -> Result<(), Al
     push_replies(text, log)
 }
 
-fn push_threads(text: &mut String, threads: usize, logs: &[Log]) -> Result<(), AllocError>
+/// Puts the replies of the first threads behind the text. An error is want of memory.
+pub fn push_threads(text: &mut String, threads: usize, logs: &[Log]) -> Result<(), AllocError>
     requires { threads ≤ length logs.now }
     ensures { OnOk result (string_bytes text.new ≡ string_bytes text.old ++ threads_text threads logs.now) }
 {
@@ -36,7 +37,8 @@ fn push_threads(text: &mut String, threads: usize, logs: &[Log]) -> Result<(), A
     Ok(())
 }
 
-fn push_count(text: &mut String, name: &str, count: u64) -> Result<(), AllocError>
+/// Puts a name and a number behind the text, on a line. An error is want of memory.
+pub fn push_count(text: &mut String, name: &str, count: u64) -> Result<(), AllocError>
     ensures { OnOk result (string_bytes text.new ≡ string_bytes text.old ++ count_line name.now count) }
 {
     writeln!(text, "{name} {count}")

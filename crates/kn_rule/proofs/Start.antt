@@ -3,6 +3,7 @@ use Rattle.kn_base.specs.declared.numbers.Span.{Span}
 use Rattle.std.proofs.Common.{◌≡◌, [], ◌∷◌, ℕ, zero, suc, inl, inr, true, false, replicate, Option, Some, None, slice_get, slice_index, refl}
 use Rattle.std.proofs.Common.{sym, subst, ◌∙◌, arith}
 use Rattle.std.proofs.lemmas.List.{length-replicate}
+use Rattle.kn_base.specs.declared.kinds.Code.TheVariants as codes
 use Rattle.kn_base.specs.declared.kinds.FrameKind.TheVariants as frames
 use Rattle.kn_base.specs.Sizes.{frame_count}
 use Rattle.kn_base.specs.SpanLists.{Covers, HasWord}
@@ -50,6 +51,10 @@ not_paused = refl
 none_done : 0 ≡ last_done (phase_of 0)
 unfolding phase_of
 none_done = refl
+
+not_mark : (phase_of 0).code ≡ codes.Mark → ⊥
+unfolding phase_of
+not_mark e = cc
 
 first_epoch : (phase_of 0).epoch ≡ 0
 unfolding phase_of
@@ -101,10 +106,11 @@ start_meets_rule z page home = (
       };
       stated = record { each = λ c l. refl; resting = λ c l m. tt };
       at_end = record { seen = λ i l e. absurd (not_seen z.sizes.threads i e); all = λ e. absurd (cc) };
-      polling = record { since = λ c l i. absurd i; untargeted = λ c l i. refl; targets = λ c l. tt };
+      polling = record { since = λ c l i. absurd i; untargeted = λ c l i. refl; due = λ c l. tt; targets = λ c l. tt };
       owners = record { each = λ c p o l e. absurd (no_open (frame_count z.sizes) p o e) };
       stopped = record { still = λ h i l x. x; stopping = λ h i l e x. x };
       wanted = record { reached = omega (arith, first_epoch); known = omega arith; targets = λ e a b. absurd (omega arith); few = omega arith };
+      working = record { none = λ _. refl; all = λ e. absurd (cc); at_rest = λ _. refl; in_mark = λ e. absurd (not_mark e) };
       framed = record {
         packs = λ p l. frame_zero;
         named = λ p l e. let h : frames.Vacant ≡ frames.Owned = sym vacant ∙ e in absurd (cc);

@@ -1,18 +1,21 @@
 -- A stop of one thread, computed step by step: it wants the first epoch by a `gc`; the collector finds that, stores the stop, waits until
 -- the thread has left, begins the marking and stores Mark; the thread loads Mark and waits outside.
-use Rattle.std.proofs.Common.{◌≡◌, ℕ, zero, suc, ◌<◌, true, false, arith, Some, None, slice_get, refl}
+use Rattle.std.proofs.Common.{◌≡◌, ℕ, zero, suc, ◌<◌, true, false, arith, Some, None, slice_get, refl, [], ◌∷◌}
 use Rattle.kn_base.specs.declared.places.Place.{Place}
 use Rattle.kn_base.specs.declared.places.Place.TheVariants.{Phase, Want, Pending, State as StateOf}
 use Rattle.kn_graph.specs.declared.calls.Call.TheVariants.{Collect}
+use Rattle.kn_graph.specs.declared.calls.Reply.TheVariants as replies
 use Rattle.kn_rule.specs.declared.steps.Kind.{Kind}
 use Rattle.kn_rule.specs.declared.steps.Kind.TheVariants.{K1, K2, K13, K14, K15, K16}
 use Rattle.kn_rule.specs.declared.steps.Action.{Action}
 use Rattle.kn_rule.specs.declared.steps.Action.TheVariants.{Loads, LoadsFor, Stores, Raises}
-use Rattle.kn_rule.specs.declared.positions.Position.TheVariants.{Out, Waiting, Leaving}
+use Rattle.kn_rule.specs.declared.positions.Position.TheVariants.{Out, Between, Waiting, Leaving}
 use Rattle.kn_rule.specs.Decoding.{phase_of}
 use Rattle.kn_rule.specs.Views.{State}
-use Rattle.kn_rule.specs.Steps.{does, found}
-use Rattle.kn_rule.specs.Allowed.{MayRaise, MayStop, MayBeginMarking, MayMark}
+use Rattle.kn_rule.specs.Phases.{pauses}
+use Rattle.kn_rule.specs.Places.{put}
+use Rattle.kn_rule.specs.Steps.{does, found, entry_of}
+use Rattle.kn_rule.specs.Allowed.{MayRaise, MayStop, MayBeginMarking, MayMark, MayStopCollecting}
 use Rattle.kn_rule.specs.Moves.{stepped}
 use Rattle.kn_rule.specs.Rule.{start}
 use Rattle.kn_rule.proofs.Rows.{ground, whole}
@@ -133,3 +136,80 @@ no_mark_before m = let e : true ≡ false = m.begun in cc
 no_second : MayBeginMarking (ground 64) 1 (marking.caller 1) (λ _. false) Pending (Stores 3) → ⊥
 unfolding phase_of
 no_second m = let e : false ≡ true = m.once in cc
+
+-- a thread that waits, where the phase word is n: as it is told by a load of the phase
+abbrev waiting_at : ℕ → State
+waiting_at n = by 0 (record wanting { word = put wanting.word Phase n }) K1 Phase (LoadsFor None)
+
+abbrev is_answered : State → Type 0
+is_answered s =
+    ((s.caller 0).position ≡ Between) × ((s.caller 0).target ≡ None) × (s.history ≡ entry_of 0 (pauses (phase_of (s.word Phase))) Collect
+    (replies.Epoch 1) 0 ∷ [])
+
+-- its epoch is done in Idle(1), and in each phase of the next epoch
+answered_idle : is_answered (waiting_at 8)
+unfolding phase_of
+answered_idle = (refl, refl, refl)
+
+answered_next : is_answered (waiting_at 17)
+unfolding phase_of
+answered_next = (refl, refl, refl)
+
+-- what was polled before such a stop stays, and a run phase is polled
+polled_stays : ((waiting_at 17).caller 0).polled ≡ 0
+unfolding phase_of
+polled_stays = refl
+
+polled_now : ((waiting_at 8).caller 0).polled ≡ 8
+unfolding phase_of
+polled_now = refl
+
+-- in Weak(1) it goes on waiting
+goes_on : (((waiting_at 11).caller 0).position ≡ Waiting) × (((waiting_at 11).caller 0).target ≡ Some 1) × ((waiting_at 11).history ≡ [])
+unfolding phase_of
+goes_on = (refl, refl, refl)
+
+-- where it is out and comes back into Idle(1), it is answered by the load with which it is in; into Weak(1), it waits
+abbrev back_at : ℕ → State
+back_at n =
+    by 0 (by 0 (by 0 (record outside { word = put outside.word Phase n }) K1 Phase (LoadsFor None)) K2 (StateOf 0) (Stores 1)) K1 Phase
+    (LoadsFor None)
+
+answered_back : is_answered (back_at 8)
+unfolding phase_of
+answered_back = (refl, refl, refl)
+
+waits_back : (((back_at 11).caller 0).position ≡ Waiting) × (((back_at 11).caller 0).polled ≡ 11)
+unfolding phase_of
+waits_back = (refl, refl)
+
+-- a thread that has ended is seen so, and is counted in a stop
+abbrev over : State
+over = by 1 (by 0 (start (ground 64) (λ _. Some (whole 64))) K2 (StateOf 0) (Stores 2)) K15 (StateOf 0) Loads
+
+seen_ended : (slice_get (over.caller 1).collecting.ended 0 ≡ Some true) × (slice_get (over.caller 1).collecting.counted 0 ≡ Some true)
+unfolding phase_of
+seen_ended = (refl, refl)
+
+-- then the collector may end, where no epoch is wanted
+abbrev none_wanted : State
+none_wanted = by 1 over K13 Want Loads
+
+may_end : MayStopCollecting (ground 64) 1 (none_wanted.caller 1) (λ _. false) 2
+unfolding phase_of
+may_end = record {
+  collects = record { collector = refl; going = refl };
+  value = refl;
+  idle = refl;
+  ended = λ i l. at i l;
+  none_wanted = omega arith;
+}
+  where
+    at : (i : ℕ) → i < 1 → slice_get (none_wanted.caller 1).collecting.ended i ≡ Some true
+    at zero l = refl
+    at (suc i) l = absurd (omega arith)
+
+-- the store of Mark forgets nobody who was counted
+still_counted : slice_get (marking.caller 1).collecting.counted 0 ≡ Some true
+unfolding phase_of
+still_counted = refl

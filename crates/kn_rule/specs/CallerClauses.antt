@@ -1,9 +1,10 @@
 -- The clauses of the rule on where callers stand, what they polled, and what they may own.
-use Rattle.std.specs.Prelude.{◌≡◌, ℕ, ◌+◌, ◌<◌, ◌≤◌, ◌⊎◌, true, Bool, List, Option, Some, None, length, slice_get}
+use Rattle.std.specs.Prelude.{◌≡◌, ℕ, ◌+◌, ◌<◌, ◌≤◌, ◌⊎◌, true, false, Bool, List, Option, Some, None, count_by, slice_get}
 use Rattle.std.specs.List.{AllByRecursion, Contains}
 use Rattle.kn_base.specs.declared.kinds.Code.{Code}
 use Rattle.kn_base.specs.declared.kinds.Code.TheVariants as codes
 use Rattle.kn_base.specs.declared.phase_word.PhaseWord.{PhaseWord}
+use Rattle.kn_graph.specs.declared.calls.Call.{Call}
 use Rattle.kn_graph.specs.declared.calls.Call.TheVariants.{Collect}
 use Rattle.kn_graph.specs.declared.calls.Reply.TheVariants as replies
 use Rattle.kn_graph.specs.declared.entries.Event.TheVariants as events
@@ -78,12 +79,19 @@ abbrev pub IsTarget : ℕ → ℕ → Option ℕ → List Entry → Type 0
 IsTarget paused want None log = Unit {0}
 IsTarget paused want (Some n) log = (1 ≤ n) × (n ≤ paused + 1) × (n ≤ want) × AllByRecursion (λ entry. entry.epoch < n) log
 
--- a mutator that is in polled a run phase, since which the phase went on by a stop at most; one that is in has a target only
--- where it waits; and targets are within their limits
+-- one that waits has a target, and one that has ended has none
+abbrev pub IsDue : Position → Option ℕ → Type 0
+IsDue Waiting None = ⊥
+IsDue Ended (Some n) = ⊥
+IsDue _ target = Unit {0}
+
+-- a mutator that is in polled a run phase, since which the phase went on by a stop at most; one that is in has a target exactly
+-- where it waits, and one that has ended has none; and targets are within their limits
 pub record Polled (z : Ground) (paused phase want : ℕ) (position : ℕ → Position) (polled : ℕ → ℕ) (target : ℕ → Option ℕ)
     (log : ℕ → List Entry) : Type 0 where
   pub since : (c : ℕ) → c < z.sizes.threads → IsIn (position c) → IsSince (phase_of (polled c)) (phase_of phase)
   pub untargeted : (c : ℕ) → c < z.sizes.threads → IsBusy (position c) → target c ≡ None
+  pub due : (c : ℕ) → c < z.sizes.threads → IsDue (position c) (target c)
   pub targets : (c : ℕ) → c < z.sizes.threads → IsTarget paused want (target c) (log c)
 
 abbrev pub MayOwn : Ground → ℕ → (ℕ → Position) → ℕ → Type 0
@@ -116,10 +124,14 @@ IsTargetOf e target log = (target ≡ Some e) ⊎ HasAnswer e log
 abbrev pub IsWantedBySome : Ground → (ℕ → Option ℕ) → (ℕ → List Entry) → ℕ → Type 0
 IsWantedBySome z target log e = (c : ℕ) × (c < z.sizes.threads) × IsTargetOf e (target c) (log c)
 
--- how many targets a caller has had at most, by its target and its log
+-- how many targets a caller has had: one for each `gc` in its log, and the one that it waits for
+abbrev pub is_collect : Call → Bool
+is_collect Collect = true
+is_collect _ = false
+
 abbrev pub targets_had : Option ℕ → List Entry → ℕ
-targets_had None log = length (calls_of log)
-targets_had (Some n) log = length (calls_of log) + 1
+targets_had None log = count_by is_collect (calls_of log)
+targets_had (Some n) log = count_by is_collect (calls_of log) + 1
 
 -- the epoch wanted is at least that of the phase, and the one that the collector loaded last; each epoch from 1 to it is the target
 -- of a `gc` that some mutator has begun; and it is at most the number of targets
@@ -128,3 +140,17 @@ pub record Wanted (z : Ground) (phase want : ℕ) (target : ℕ → Option ℕ) 
   pub known : loaded ≤ want
   pub targets : (e : ℕ) → 1 ≤ e → e ≤ want → IsWantedBySome z target log e
   pub few : want ≤ total z.sizes.threads (λ c. targets_had (target c) (log c))
+
+-- no marking is under way
+abbrev pub IsAtRest : Code → Type 0
+IsAtRest codes.StopA = ⊥
+IsAtRest codes.Mark = ⊥
+IsAtRest _ = Unit {0}
+
+-- the marking is over but from its beginning in a stop on; then a unit of work is open for each root set, since no marker's step is
+-- built, and else none is
+pub record Working (z : Ground) (phase pending : ℕ) (over : Bool) : Type 0 where
+  pub none : over ≡ true → pending ≡ 0
+  pub all : over ≡ false → pending ≡ z.sizes.threads + 2
+  pub at_rest : IsAtRest (phase_of phase).code → over ≡ true
+  pub in_mark : (phase_of phase).code ≡ codes.Mark → over ≡ false

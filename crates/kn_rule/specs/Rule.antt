@@ -3,7 +3,7 @@ use Rattle.std.specs.Prelude.{◌≡◌, ℕ, ◌+◌, ◌<◌, true, false, Lis
 use Rattle.kn_base.specs.declared.limits.TheConstants.{LOCALS}
 use Rattle.kn_base.specs.declared.heap.Sizes.{Sizes}
 use Rattle.kn_base.specs.declared.places.Place.{Place}
-use Rattle.kn_base.specs.declared.places.Place.TheVariants.{Phase, Want, State as StateOf, Local, Global, Node, Frame, Side, Body}
+use Rattle.kn_base.specs.declared.places.Place.TheVariants.{Phase, Want, Pending, State as StateOf, Local, Global, Node, Frame, Side, Body}
 use Rattle.kn_base.specs.Sizes.{frame_count}
 use Rattle.kn_base.specs.SpanLists.{IsWhollyFree}
 use Rattle.kn_base.specs.Pages.{FrameView}
@@ -20,12 +20,13 @@ use Rattle.kn_rule.specs.Steps.{Step, Found, callers}
 use Rattle.kn_rule.specs.Moves.{Finds}
 use Rattle.kn_rule.specs.HistoryClauses.{Told, Formed, Timed}
 use Rattle.kn_rule.specs.ObjectClauses.{Headed, ReadRight, Fielded, Cleared, Localed, Globaled, Named, Apart}
-use Rattle.kn_rule.specs.CallerClauses.{Stated, AtEnd, Polled, Owners, Stopped, Wanted}
+use Rattle.kn_rule.specs.CallerClauses.{Stated, AtEnd, Polled, Owners, Stopped, Wanted, Working}
 use Rattle.kn_rule.specs.FrameClauses.{Framed, IsFilled, Housed, Handed, Classed, Placed, TakenIn}
 
 -- the clauses that speak of words, pages and objects, and of where callers stand, part by part
 pub record Standing (z : Ground) (paused done born : ℕ) (shape : ℕ → Shape) (points : ℕ → ℕ → Option ℕ) (number : ℕ → ℕ → ℕ)
-    (global stable weak back : ℕ → Option ℕ) (count : ℕ → ℕ) (phase want : ℕ) (state_word global_word node_word frame_word side body : ℕ →
+    (global stable weak back : ℕ → Option ℕ) (count : ℕ → ℕ) (phase want pending : ℕ)
+    (state_word global_word node_word frame_word side body : ℕ →
     ℕ)
     (page : ℕ → Option FrameView) (position : ℕ → Position) (polled : ℕ → ℕ) (target : ℕ → Option ℕ) (local : ℕ → ℕ → ℕ)
     (own : ℕ → ℕ → Option Open) (taken : ℕ → Option Taken) (log : ℕ → List Entry) (rest : ℕ → Rest) : Type 0 where
@@ -42,6 +43,7 @@ pub record Standing (z : Ground) (paused done born : ℕ) (shape : ℕ → Shape
   pub owners : Owners z phase position own
   pub stopped : Stopped z phase position (λ c. (rest c).collecting.counted)
   pub wanted : Wanted z phase want target log (rest z.sizes.threads).collecting.wanted
+  pub working : Working z phase pending (rest z.sizes.threads).collecting.over
   pub framed : Framed (callers z.sizes) (frame_count z.sizes) frame_word own
   pub housed : Housed z.sizes (IsFilled z.sizes born shape side) frame_word page
   pub handed : Handed z.sizes (callers z.sizes) (IsFilled z.sizes born shape side) own taken (λ c. (rest c).sweep)
@@ -52,7 +54,7 @@ pub record Standing (z : Ground) (paused done born : ℕ) (shape : ℕ → Shape
 -- those clauses, of a graph, the words, the pages of frames that are not owned, and the views
 abbrev pub Represents : Ground → Graph → (Place → ℕ) → (ℕ → Option FrameView) → Views → Type 0
 Represents z g word page v =
-    Standing z g.paused g.done g.born (shapes g) (pointers g) (numbers g) g.global g.stable g.weak g.back g.count (word Phase) (word Want)
+    Standing z g.paused g.done g.born (shapes g) (pointers g) (numbers g) g.global g.stable g.weak g.back g.count (word Phase) (word Want) (word Pending)
     (λ c. word (StateOf c)) (λ i. word (Global i)) (λ k. word (Node k)) (λ p. word (Frame p)) (λ a. word (Side a)) (λ a. word (Body a)) page
     v.position v.polled v.target v.local v.own v.taken v.log v.rest
 

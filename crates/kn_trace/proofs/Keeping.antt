@@ -28,7 +28,6 @@ module _ (moves : StaysAsPagesMove) where
     knows = h.knows;
     planned = h.planned;
     births = h.births;
-    target = h.target;
     width = h.width;
     addresses = h.addresses;
     at = h.at;

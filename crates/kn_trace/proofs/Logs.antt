@@ -1,6 +1,6 @@
 -- The logs of a run.
 use Rattle.std.proofs.Common.{◌≡◌, ℕ, ◌<◌, ◌≤◌, inl, inr, List, []}
-use Rattle.std.proofs.Common.{◌∷◌, ◌++◌, take}
+use Rattle.std.proofs.Common.{◌∷◌, ◌++◌, Option, Some, None, take}
 use Rattle.std.proofs.Common.{refl, sym, ap, ◌∙◌, subst, arith}
 use Rattle.std.proofs.Math.Seq.{take-length}
 use Rattle.std.proofs.lemmas.Bool.Decides.{eqb_tells}
@@ -17,21 +17,28 @@ use Rattle.kn_rule.specs.Views.{View}
 use Rattle.kn_rule.specs.Steps.{callers}
 use Rattle.kn_board.specs.World.{World, Sound, view_at}
 use Rattle.kn_mutator.specs.declared.task.Task.{Task}
-use Rattle.kn_mutator.specs.declared.task.Task.TheVariants.{Out, GoesIn, Enters, Polls, Calls, Births, Writes, SendsSingle, Leaves, Ends, Ended}
-use Rattle.kn_mutator.specs.Agree.{HasAnswered, AtTask, HasEnded}
+use Rattle.kn_mutator.specs.declared.task.Task.TheVariants.{Out, GoesIn, Enters, Polls, Calls, Births, Writes, Waits}
+use Rattle.kn_mutator.specs.declared.task.Task.TheVariants.{SendsSingle, Leaves, Ends, Ended}
+use Rattle.kn_mutator.specs.Agree.{HasAnswered, AtTask, HasEnded, Owes}
 use Rattle.kn_mutator.specs.Mutating.{Mutating}
+
+-- whatever is owed, the log answers some of the calls
+owed : (m : Mutating) (target : Option ℕ) → Owes m target → (n : ℕ) × HasAnswered m.log m.calls n
+owed m None h = (m.begun, h.0)
+owed m (Some n) h = (h.number, h.answers)
 
 -- at every task the log answers some of the calls
 pub answered : (task : Task) (m : Mutating) (v : View) → AtTask task m v → (n : ℕ) × HasAnswered m.log m.calls n
-answered Out m v at = (m.begun, at.0.answers)
-answered GoesIn m v at = (m.begun, at.0.answers)
-answered Enters m v at = (m.begun, at.0.answers)
+answered Out m v at = owed m m.target at.owes
+answered GoesIn m v at = owed m m.target at.owes
+answered Enters m v at = owed m m.target at.owes
 answered Polls m v at = (m.begun, at.0.answers)
 answered (Calls call h) m v at = (at.under_way.number, at.under_way.answers)
 answered (Births call) m v at = (at.under_way.number, at.under_way.answers)
 answered (Writes r w) m v at = (m.begun, at.answers)
+answered Waits m v at = owed m m.target at.0.owes
 answered SendsSingle m v at = (m.begun, at.1.answers)
-answered Leaves m v at = (m.begun, at.1.answers)
+answered Leaves m v at = owed m m.target at.1
 answered Ends m v at = (m.begun, at.1.answers)
 answered Ended m v at = (m.begun, at.1)
 

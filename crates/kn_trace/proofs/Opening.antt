@@ -8,6 +8,7 @@ use Rattle.std.proofs.lemmas.List.{map-append}
 use Rattle.std.proofs.lemmas.List.Elements.{All-from_recursion}
 use Rattle.kn_base.proofs.Updates.{split_at}
 use Rattle.kn_graph.specs.declared.calls.Call.{Call}
+use Rattle.kn_rule.specs.Allowed.{IsBuilt}
 use Rattle.kn_rule.specs.Rule.{fresh}
 use Rattle.kn_lines.specs.declared.orders.Actor.TheVariants as who
 use Rattle.kn_lines.specs.declared.orders.OrderWord.{OrderWord}
@@ -15,7 +16,7 @@ use Rattle.kn_lines.specs.declared.orders.OrderWord.TheVariants.{Run, Uninstall}
 use Rattle.kn_lines.specs.Ranges.{IsOrderWord}
 use Rattle.kn_script.specs.Scripts.{Scripted, ground_of}
 use Rattle.kn_mutator.specs.Agree.{Agrees}
-use Rattle.kn_mutator.specs.Mutating.{IsMade, Mutating, first_task, new_mutating}
+use Rattle.kn_mutator.specs.Mutating.{Mutating, first_task, new_mutating}
 use Rattle.kn_trace.specs.Traces.{ends, is_end}
 use Rattle.kn_trace.specs.Runs.{AreBuilt, calls_at, named}
 use Rattle.kn_trace.specs.Between.{AreNew}
@@ -42,7 +43,7 @@ pub all_below : (n : ℕ) (order : List OrderWord) → AllByRecursion (IsOrderWo
 all_below n order all = All-from_recursion (λ thread. thread < n) (filter_map named order) (named_below n order all)
 
 -- the calls of each thread are built
-pub built_at : (threads : List (List Call)) (thread : ℕ) → AreBuilt threads → AllByRecursion IsMade (calls_at threads thread)
+pub built_at : (threads : List (List Call)) (thread : ℕ) → AreBuilt threads → AllByRecursion IsBuilt (calls_at threads thread)
 built_at [] thread all = tt
 built_at (calls ∷ threads) zero all = all.0
 built_at (calls ∷ threads) (suc thread) all = built_at threads thread all.1

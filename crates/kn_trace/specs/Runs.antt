@@ -6,6 +6,7 @@ use Rattle.kn_base.specs.Pages.{FrameView}
 use Rattle.kn_graph.specs.declared.calls.Call.{Call}
 use Rattle.kn_graph.specs.declared.entries.Entry.{Entry}
 use Rattle.kn_graph.specs.Logs.{log_of, IsComplete, IsPartial}
+use Rattle.kn_rule.specs.Allowed.{IsBuilt}
 use Rattle.kn_schedule.specs.Schedules.{AllEnded}
 use Rattle.kn_lines.specs.declared.orders.Actor.TheVariants.{Thread}
 use Rattle.kn_lines.specs.declared.orders.OrderWord.{OrderWord}
@@ -13,7 +14,7 @@ use Rattle.kn_lines.specs.declared.orders.OrderWord.TheVariants.{Run}
 use Rattle.kn_script.specs.Scripts.{Scripted, ground_of}
 use Rattle.kn_board.specs.Open.{AreWhole, opened}
 use Rattle.kn_board.specs.World.{World}
-use Rattle.kn_mutator.specs.Mutating.{IsMade, Mutating, new_mutating}
+use Rattle.kn_mutator.specs.Mutating.{Mutating, new_mutating}
 use Rattle.kn_trace.specs.Traces.{Trace, Runs, ended}
 
 -- the thread that an order word names, which is asked for a turn; today no order word has more than this number, so what
@@ -26,9 +27,9 @@ named _ = None
 abbrev pub calls_at : List (List Call) → ℕ → List Call
 calls_at threads thread = slice_index_or threads thread []
 
--- every call is one that a mutator makes
+-- every call is built
 abbrev pub AreBuilt : List (List Call) → Type 0
-AreBuilt threads = AllByRecursion (AllByRecursion IsMade) threads
+AreBuilt threads = AllByRecursion (AllByRecursion IsBuilt) threads
 
 -- the opened board, for each thread a mutator that has made no turn, and the threads that the order words name
 pub record IsStart (script : Scripted) (t : Trace) : Type 0 where

@@ -19,4 +19,4 @@ mod words;
 pub use known::Known;
 pub use loads::{field_of, kind_told, reply_to_reference};
 pub use polls::answer_alone;
-pub use words::{left_by, pauses_before, runs, stored_by, wanted_by};
+pub use words::{is_done, left_by, pauses_before, runs, stored_by, wanted_by};

@@ -17,7 +17,7 @@ ghost use Rattle.kn_rule.specs.Outcomes.{polled, poll_run, enters_for, epoch_tol
 ghost use Rattle.kn_view.specs.Parts.{Makes, MayBegin, ground_of, view_with};
 
 use crate::known::{Known, entry_by};
-use crate::words::{done_before, pauses_before, runs};
+use crate::words::{is_done, pauses_before, runs};
 use kn_base::Sizes;
 use kn_graph::{Call, Entry, Reply};
 use kn_layout::Layout;
@@ -248,14 +248,6 @@ fn nil_at(locals: &[u32; 16], r: u8) -> Option<Reply>
     } else {
         None
     }
-}
-
-// Whether an epoch is done at a phase word.
-fn is_done(epoch: u64, word: u64) -> bool
-    requires { word < 2 ^ 35 }
-    ensures { result ≡ nat_le epoch (last_done (phase_of word)) }
-{
-    epoch <= u64::from(done_before(word))
 }
 
 // Whether a call makes an object.

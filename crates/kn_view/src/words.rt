@@ -1,5 +1,5 @@
-//! What words tell, and the word that an action leaves. Each but `pauses_before` and `left_by` is right for any number.
-ghost use Rattle.std.specs.Prelude.{◌≡◌, ◌^◌, ◌<◌};
+//! What words tell, and the word that an action leaves. Each but `pauses_before`, `is_done` and `left_by` is right for any number.
+ghost use Rattle.std.specs.Prelude.{◌≡◌, ◌^◌, ◌<◌, IsTrue, nat_le};
 ghost use Rattle.kn_rule.specs.Decoding.{phase_of, header_of};
 ghost use Rattle.kn_rule.specs.Phases.{is_run, is_stop, last_done, pauses};
 ghost use Rattle.kn_rule.specs.Steps.{word_stored, word_wanted, word_after};
@@ -41,8 +41,8 @@ pub fn pauses_before(word: u64) -> u32
     }
 }
 
-/// The last epoch that is done at a phase word.
-pub fn done_before(word: u64) -> u32
+// The last epoch that is done at a phase word.
+fn done_before(word: u64) -> u32
     requires { word < 2 ^ 35 }
     ensures { result ≡ last_done (phase_of word) }
 {
@@ -52,6 +52,15 @@ pub fn done_before(word: u64) -> u32
     } else {
         epoch.saturating_sub(1)
     }
+}
+
+/// Whether an epoch is done at a phase word.
+pub fn is_done(epoch: u64, word: u64) -> bool
+    requires { word < 2 ^ 35 }
+    ensures is { result ≡ nat_le epoch (last_done (phase_of word)) }
+    ensures short { IsTrue result → epoch < 2 ^ 32 }
+{
+    epoch <= u64::from(done_before(word))
 }
 
 /// Whether a phase word is that of a stop.

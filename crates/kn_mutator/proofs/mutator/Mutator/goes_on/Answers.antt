@@ -7,11 +7,8 @@ returns-in-Out g c = goes_any c.looks.ensures
 pub returns-in-GoesIn : goal.returns-in-GoesIn
 returns-in-GoesIn g c = goes_any c.goes_in.ensures
 
-pub returns-in-Enters : goal.returns-in-Enters
-returns-in-Enters g c = goes_told c.polls.ensures
-
 pub returns-in-Polls : goal.returns-in-Polls
-returns-in-Polls g c = goes_told c.polls-in-Polls.ensures
+returns-in-Polls g c = goes_told c.polls.ensures
 
 pub returns-in-Calls : goal.returns-in-Calls
 returns-in-Calls g c = goes_any c.calls_at.ensures
@@ -21,6 +18,9 @@ returns-in-Births g c = stops_any c.gets_cell.ensures
 
 pub returns-in-Writes : goal.returns-in-Writes
 returns-in-Writes g c = goes_any c.writes.ensures
+
+pub returns-in-Waits : goal.returns-in-Waits
+returns-in-Waits g c = goes_any c.waits.ensures
 
 pub returns-in-SendsSingle : goal.returns-in-SendsSingle
 returns-in-SendsSingle g c = goes_any c.sends_single.ensures

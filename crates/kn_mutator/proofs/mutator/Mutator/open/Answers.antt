@@ -1,4 +1,4 @@
-use Rattle.std.proofs.Common.{◌≡◌, ◌≤◌, [], List, length, replicate, slice_index_or, sym, ap, ◌∙◌, subst, arith}
+use Rattle.std.proofs.Common.{◌≡◌, ◌≤◌, [], List, None, length, replicate, slice_index_or, sym, ap, ◌∙◌, subst, arith}
 use Rattle.kn_base.specs.declared.limits.TheConstants.{LOCALS, MOST_CALLS}
 use Rattle.kn_graph.specs.declared.calls.Call.{Call}
 use Rattle.kn_graph.specs.Ground.{IsGoodGround}
@@ -35,10 +35,11 @@ returns-clause-agrees c = λ here.
       calls = calls t;
       begun = 0;
       epoch = 0;
+      target = None;
       locals = replicate LOCALS 0;
       task = task t;
       alloc = alloc t;
       log = log t;
     } in
     subst (λ (m : Mutating). Agrees m (record { heap = ground_of s; by = c.args.i; view = fresh (ground_of s) }) here) (sym is)
-    (opened s c.args.i c.requires.good c.requires.thread c.requires.made here)
+    (opened s c.args.i c.requires.good c.requires.thread c.requires.built here)

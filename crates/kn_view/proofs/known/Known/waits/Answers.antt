@@ -21,5 +21,5 @@ returns-then-is_done c = λ z a page owned log.
     c.tells.ensures z a page owned log
     ∙ (ap (λ (n : ℕ). epoch_told z c.args.by v Phase a f n c.in-Some.target) (ap (λ (q : Part). q.polled) c.self.view_is)
     ∙ (ap (λ (b : Bool). cond b (epoch_told z c.args.by v Phase a f v.polled c.in-Some.target) (quietly (record v { position = Leaving })))
-    c.if-is_done.ensures
+    c.if-is_done.ensures.is
     ∙ (λ t. waits_at z c.args.by v Phase a f (c.if-runs.ensures t) (target t))))

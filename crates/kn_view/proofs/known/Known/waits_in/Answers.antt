@@ -11,4 +11,4 @@ returns-then-is_done c = λ z a page owned log.
     let f = found c.args.word page in
     c.tells.ensures z a page owned log
     ∙ ap (λ (b : Bool). cond b (epoch_told z c.args.by v Phase a f c.args.word c.args.target) (waits_on z c.args.by v Phase a f))
-    c.if-is_done.ensures
+    c.if-is_done.ensures.is

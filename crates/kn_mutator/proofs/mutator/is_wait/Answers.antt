@@ -1,6 +1,6 @@
 use Rattle.std.proofs.Common.{◌<◌, ◌%◌, ◌∙◌, arith}
 use Rattle.kn_mutator.proofs.Waiting.{wait_code, wait_others}
-use Rattle.kn_mutator.proofs.mutator.waits.Goals as goal
+use Rattle.kn_mutator.proofs.mutator.is_wait.Goals as goal
 
 pub returns-then-code-eq1 : goal.returns-then-code-eq1
 returns-then-code-eq1 c = wait_code c.args.word 1 c.if-code-eq1.true
