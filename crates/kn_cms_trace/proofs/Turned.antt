@@ -1,5 +1,6 @@
 -- What one turn, and a number of turns, make of a run.
-use Rattle.std.proofs.Common.{◌≡◌, ◌∙◌, ℕ, ◌+◌, ◌<◌, ◌⊎◌, Bool, true, false, cond, List, [], ◌++◌, arith, refl, sym, ap, subst, inl, inr, slice_set, MatchBool, add-one}
+use Rattle.std.proofs.Common.{◌≡◌, ◌∙◌, ℕ, ◌+◌, ◌<◌, ◌⊎◌, Bool, true, false, cond, List, [], ◌++◌, arith, refl}
+use Rattle.std.proofs.Common.{sym, ap, subst, inl, inr, slice_set, MatchBool, add-one}
 use Rattle.std.proofs.lemmas.Bool.{le-ltb, lt-ltb}
 use Rattle.std.proofs.lemmas.List.{append-nil}
 use Rattle.kn_graph.specs.declared.calls.Call.{Call}
