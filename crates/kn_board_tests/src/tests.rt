@@ -1,3 +1,4 @@
+mod pairs;
 mod stops;
 
 ghost use Rattle.std.specs.Prelude.{◌≡◌, ◌<◌};

@@ -7,7 +7,7 @@ mod SetTurns
 mod BirthTurns
 mod CollectorTurns
 mod ThreadTurns
-mod OpenedCore
+pub mod OpenedCore
 mod Standing
 mod CoreWords
 mod Ended

@@ -1,2 +1,5 @@
 mod Ended
 mod Turned
+mod Ordered
+mod Fallen
+mod OneRun

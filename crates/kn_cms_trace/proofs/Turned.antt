@@ -18,18 +18,17 @@ use Rattle.kn_cms_rule.specs.Turns.{HasEnded, TurnOf}
 use Rattle.kn_cms.specs.Moves.{TurnMoves}
 use Rattle.kn_cms.specs.Stands.{StandsFor}
 use Rattle.kn_cms_lists.specs.Kept.{Kept, calls_of_threads}
-use Rattle.kn_cms_turns.specs.Asks.{standing_of}
-use Rattle.kn_cms_turns.specs.Turns.{IsNextActor, LeftWords}
+use Rattle.kn_schedule.specs.Schedules.{IsNext, Left}
 use Rattle.kn_cms_trace.specs.CoreRuns.{CoreRun, CoreGoesOn, CoreHasEnded, CoreTurns, IsCoreOver, IsCoreRecord, IsCoreTurn, IsWholeRecord}
-use Rattle.kn_cms_trace.specs.CoreRuns.{actor_at, answered_by, core_start, is_done}
+use Rattle.kn_cms_trace.specs.CoreRuns.{actor_at, answered_by, core_start, is_done, standing_in}
 use Rattle.kn_cms_trace.proofs.Ended.{flagged_ended}
 use Rattle.kn_cms_trace.specs.Runners.{IsOfScript, KeepsScript, RanCore, Runner, RunnerTurns, TakesTurns}
 
 -- the turn of the actor whose turn it is
-pub one_turn : (k : Runner) (core : Kept) (left : LeftWords) (actor ended_at answered_at : ℕ) (who : Actor) (turn : CmsTurn) (flag : Bool) (count : ℕ) →
+pub one_turn : (k : Runner) (core : Kept) (left : Left) (actor ended_at answered_at : ℕ) (who : Actor) (turn : CmsTurn) (flag : Bool) (count : ℕ) →
     ended_at ≡ actor → answered_at ≡ actor → who ≡ actor_at k.core.ground.sizes.threads actor → flag ≡ is_done turn →
     TurnMoves k.core who turn core → ((s : State) → StandsFor core s → count ≡ answered_by s who) →
-    IsNextActor k.core.ground.sizes.threads (standing_of k.ended k.answered) k.left actor left →
+    IsNext k.core.ground.sizes.threads (standing_in k.ended k.answered) k.left actor left →
     RunnerTurns k (record {
       core = core;
       ended = slice_set k.ended ended_at flag;
@@ -39,9 +38,9 @@ pub one_turn : (k : Runner) (core : Kept) (left : LeftWords) (actor ended_at ans
 one_turn k core left actor ended_at answered_at who turn flag count there here is done moves counts next r h =
     let threads = k.core.ground.sizes.threads in
     let made = moves.stands r.state h.core in
-    let asked = subst (λ (l : LeftWords). IsNextActor threads (standing_of k.ended k.answered) l actor left) (sym h.left) next in
-    let asked = subst (λ (e : List Bool). IsNextActor threads (standing_of e k.answered) r.left actor left) (sym h.ended) asked in
-    let asked = subst (λ (a : List ℕ). IsNextActor threads (standing_of r.ended a) r.left actor left) (sym h.answered) asked in (
+    let asked = subst (λ (l : Left). IsNext threads (standing_in k.ended k.answered) l actor left) (sym h.left) next in
+    let asked = subst (λ (e : List Bool). IsNext threads (standing_in e k.answered) r.left actor left) (sym h.ended) asked in
+    let asked = subst (λ (a : List ℕ). IsNext threads (standing_in r.ended a) r.left actor left) (sym h.answered) asked in (
       record {
         state = made.0;
         ended = slice_set k.ended ended_at flag;

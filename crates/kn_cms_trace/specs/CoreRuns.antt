@@ -1,12 +1,14 @@
 -- Runs of a script on a core, in which each turn is one step.
 use Rattle.std.specs.Prelude.{◌≡◌, ℕ, zero, suc, ◌+◌, ◌<◌, ◌≤◌, Bool, true, false, cond, nat_lt, List, length, replicate}
 use Rattle.std.specs.Prelude.{slice_index_or, slice_set}
+use Rattle.kn_base.specs.declared.kinds.Code.TheVariants.{Idle as idle}
 use Rattle.kn_graph.specs.Ground.{Ground}
 use Rattle.kn_graph.specs.Logs.{calls_of, log_of, IsComplete, IsPartial}
 use Rattle.kn_lines.specs.declared.orders.Actor.{Actor}
 use Rattle.kn_lines.specs.declared.orders.Actor.TheVariants.{Thread, Collector}
 use Rattle.kn_script.specs.Scripts.{Scripted, ground_of}
-use Rattle.kn_schedule.specs.Schedules.{AllEnded}
+use Rattle.kn_schedule.specs.Asks.{Standing, standing_of}
+use Rattle.kn_schedule.specs.Schedules.{AllEnded, IsNext, Left, whole_order}
 use Rattle.kn_cms_rule.specs.declared.stages.CmsTurn.{CmsTurn}
 use Rattle.kn_cms_rule.specs.declared.stages.CmsTurn.TheVariants.{Done}
 use Rattle.kn_cms_rule.specs.declared.stages.Stage.TheVariants.{Finished}
@@ -15,8 +17,6 @@ use Rattle.kn_cms_rule.specs.Calls.{IsCoreHistory}
 use Rattle.kn_cms_rule.specs.State.{State, opening}
 use Rattle.kn_cms_rule.specs.Turns.{TurnOf}
 use Rattle.kn_cms_lists.specs.Kept.{calls_of_threads}
-use Rattle.kn_cms_turns.specs.Asks.{standing_of}
-use Rattle.kn_cms_turns.specs.Turns.{IsNextActor, LeftWords, whole_order}
 
 -- the state of the core; of each actor, whether it has ended and how many calls it has answered, where the collector stands
 -- behind the threads; and what is left of the order of turns
@@ -24,7 +24,7 @@ pub record CoreRun : Type 0 where
   pub state : State
   pub ended : List Bool
   pub answered : List ℕ
-  pub left : LeftWords
+  pub left : Left
 
 -- the actor of a number: the threads by theirs, and the collector behind them
 abbrev pub actor_at : ℕ → ℕ → Actor
@@ -40,10 +40,14 @@ abbrev pub answered_by : State → Actor → ℕ
 answered_by s (Thread i) = length (calls_of (log_of i s.history))
 answered_by s _ = 0
 
+-- what the order of turns is told of the actors; a core has no phase, and is always told as idle
+abbrev pub standing_in : List Bool → List ℕ → Standing
+standing_in ended answered = standing_of ended answered idle
+
 -- one turn, of the actor whose turn it is
 pub record IsCoreTurn (z : Ground) (r r' : CoreRun) : Type 0 where
   pub actor : ℕ
-  pub next : IsNextActor z.sizes.threads (standing_of r.ended r.answered) r.left actor r'.left
+  pub next : IsNext z.sizes.threads (standing_in r.ended r.answered) r.left actor r'.left
   pub turn : CmsTurn
   pub turned : TurnOf (one_framed z) r.state (actor_at z.sizes.threads actor) turn r'.state
   pub ended : r'.ended ≡ slice_set r.ended actor (is_done turn)
@@ -60,7 +64,7 @@ core_start script = record {
   state = opening (calls_of_threads script.threads);
   ended = replicate (script.sizes.threads + 1) false;
   answered = replicate (script.sizes.threads + 1) 0;
-  left = (whole_order script.sizes.threads script.order).left;
+  left = whole_order script.order;
 }
 
 -- the actors have all ended, or some has not

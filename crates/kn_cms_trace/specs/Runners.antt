@@ -3,7 +3,7 @@ use Rattle.std.specs.Prelude.{◌≡◌, ℕ, ◌≤◌, ◌⊎◌, Bool, true, 
 use Rattle.kn_script.specs.Scripts.{Scripted, ground_of}
 use Rattle.kn_cms.specs.Stands.{StandsFor}
 use Rattle.kn_cms_lists.specs.Kept.{Kept}
-use Rattle.kn_cms_turns.specs.Turns.{LeftWords}
+use Rattle.kn_schedule.specs.Schedules.{Left}
 use Rattle.kn_cms_trace.specs.CoreRuns.{CoreRun, CoreHasEnded, CoreTurns, IsCoreRecord, IsCoreRunOf, IsCoreTurn, IsWholeRecord}
 
 -- what the core keeps, of each actor whether it has ended and how many calls it has answered, and the order of turns
@@ -11,7 +11,7 @@ pub record Runner : Type 0 where
   pub core : Kept
   pub ended : List Bool
   pub answered : List ℕ
-  pub left : LeftWords
+  pub left : Left
 
 -- the core lives on the sizes and layouts of a script, and its threads have the script's calls
 pub record IsOfScript (script : Scripted) (k : Kept) : Type 0 where

@@ -11,9 +11,10 @@ ghost use Rattle.kn_cms.specs.Stands.{StandsFor};
 ghost use Rattle.kn_cms_trace.specs.CoreRuns.{CoreGoesOn, CoreHasEnded, CoreRun, actor_at, answered_by, core_start, is_done};
 ghost use Rattle.kn_cms_trace.specs.Runners.{IsOfScript, IsRunnerOf, KeepsScript, TakesTurn, TakesTurns};
 
+use kn_base::Code;
 use kn_cms::{CmsTurn, Core};
-use kn_cms_turns::CoreSchedule;
 use kn_lines::Actor;
+use kn_schedule::Schedule;
 use kn_script::{Script, state_laws};
 use std::alloc::{AllocError, Global};
 use std::marker::Model;
@@ -27,7 +28,7 @@ pub struct CoreRunner {
     threads: u8,
     ended: Vec<bool>,
     answered: Vec<u32>,
-    schedule: CoreSchedule,
+    schedule: Schedule,
 }
 
 impl Model for CoreRunner {
@@ -94,7 +95,7 @@ impl CoreRunner {
             threads,
             ended,
             answered,
-            schedule: CoreSchedule::open(alloc, words, threads),
+            schedule: Schedule::open(words, threads),
         })
     }
 
@@ -103,7 +104,10 @@ impl CoreRunner {
         ensures keeps { KeepsScript self.old.core self.new.core }
         ensures takes { TakesTurn result self.old self.new }
     {
-        let Some(actor) = self.schedule.next_turn(&self.ended, &self.answered) else {
+        let Some(actor) = self
+            .schedule
+            .next_turn(&self.ended, &self.answered, Code::Idle)
+        else {
             return true;
         };
         let who = actor_at(self.threads, actor);

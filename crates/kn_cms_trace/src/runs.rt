@@ -1,9 +1,10 @@
 //! A run of a script on a core, from its opening to its end.
 
-ghost use Rattle.std.specs.Prelude.{◌≡◌, IfOk, true};
+ghost use Rattle.std.specs.Prelude.{◌≡◌, ◌<◌, IfOk, true};
 ghost use Rattle.std.specs.List.{AllByRecursion};
 ghost use Rattle.kn_script.specs.Good.{IsGoodScript};
 ghost use Rattle.kn_cms_rule.specs.Calls.{is_core_call};
+ghost use Rattle.kn_cms_trace.specs.Enough.{enough_turns};
 ghost use Rattle.kn_cms_trace.specs.Runners.{IsOfScript, RanCore};
 
 use crate::runner::CoreRunner;
@@ -25,6 +26,7 @@ pub fn trace_core(alloc: Global, script: &Script) -> Result<CoreTraced, AllocErr
     requires calls { AllByRecursion (AllByRecursion (λ call. is_core_call call ≡ true)) script.now.threads }
     ensures of_script { IfOk result (λ traced. IsOfScript script.now traced.core) }
     ensures run { IfOk result (λ traced. RanCore script.now traced.is_spent traced.core) }
+    ensures spent_below { IfOk result (λ traced. traced.is_spent ≡ true → script.now.turns < enough_turns script.now) }
 {
     let mut runner = CoreRunner::open(alloc, script)?;
     runner.take_turns(script.turns);

@@ -26,7 +26,7 @@ module _ {k : Kept} {a : Stand} (g : Agrees k a) where
   now_at t e =
       ap phase_of (g.stored ∙ ap (λ t. phase_word k.epoch (code_at t)) e) ∙ phase_packed (record { epoch = k.epoch; code = code_at t })
 
-  code_is : (t : Stage) → k.stage ≡ t → (phase_of a.view.collecting.stored).code ≡ code_at t
+  pub code_is : (t : Stage) → k.stage ≡ t → (phase_of a.view.collecting.stored).code ≡ code_at t
   code_is t e = ap (λ (x : PhaseWord). x.code) (now_at t e)
 
   epoch_is : (t : Stage) → k.stage ≡ t → (phase_of a.view.collecting.stored).epoch ≡ k.epoch

@@ -1,16 +1,23 @@
 -- The turn that the step of a stage makes.
 use Rattle.std.proofs.Common.{◌≡◌, ℕ, ◌+◌, ◌≤◌, ◌↔◌, Bool, true, false, cond, eqb, Some, nat_lt, refl, sym, ap, ◌∙◌, subst}
 use Rattle.std.proofs.lemmas.Bool.{eqb-true, ltb-false}
+use Rattle.std.proofs.lemmas.Option.{same_Some}
 use Rattle.kn_base.specs.declared.places.Place.{Place}
-use Rattle.kn_base.specs.declared.places.Place.TheVariants.{Want, State as StateOf}
-use Rattle.kn_rule.specs.Steps.{Found, Step}
-use Rattle.kn_steps.specs.Made.{Made, Stand}
+use Rattle.kn_base.specs.declared.kinds.Code.TheVariants as codes
+use Rattle.kn_base.specs.declared.places.Place.TheVariants.{Phase, Want, Pending, State as StateOf}
+use Rattle.kn_rule.specs.declared.positions.Position.{Position}
+use Rattle.kn_rule.specs.declared.positions.Position.TheVariants.{Calling, Out}
+use Rattle.kn_rule.specs.declared.steps.Action.TheVariants.{Loads, Stores}
+use Rattle.kn_rule.specs.declared.steps.Kind.TheVariants.{K2, K13, K14, K15, K16}
+use Rattle.kn_rule.specs.Outcomes.{wanted_at}
+use Rattle.kn_rule.specs.Steps.{Found, Step, does, logged}
+use Rattle.kn_steps.specs.Made.{Made, Stand, stand_after}
 use Rattle.kn_steps.specs.declared.turns.Turn.{Turn}
 use Rattle.kn_steps.specs.declared.turns.Turn.TheVariants.{Done, Idle, Moved}
 use Rattle.kn_collector.specs.declared.stage.Stage.{Stage}
 use Rattle.kn_collector.specs.declared.stage.Stage.TheVariants.{Looks, Wants, Ends, Ended, Stops, Counts, Begins, Marks, Marking}
 use Rattle.kn_collector.specs.Kept.{Kept}
-use Rattle.kn_collector.specs.Stages.{IsIdleFor, answer_behind, behind, stage_behind, stage_step}
+use Rattle.kn_collector.specs.Stages.{IsIdleFor, answer_behind, behind, phase_word, stage_behind, stage_step}
 use Rattle.kn_collector.specs.Agree.{Agrees, HasEnded}
 use Rattle.kn_collector.specs.Turns.{Goes}
 
@@ -75,6 +82,28 @@ module _ (k : Kept) (w : ℕ) where
   idle_told Marks p u e = absurd (cc)
   idle_told Marking p u e = cc
 
+-- the step of a stage makes no entry
+wanted_quiet : (a : Stand) (f : Found) (at : Position) → (logged (wanted_at a.heap a.by a.view Want Loads f at)).log ≡ a.view.log
+wanted_quiet a f (Calling call) = refl
+wanted_quiet a f Out = refl
+wanted_quiet a f _ = refl
+
+module _ (k : Kept) (a b : Stand) (f : Found) where
+  quiet_by : (x d : Step) → Some x ≡ Some d → (stand_after a x f).view.log ≡ a.view.log → b ≡ stand_after a d f → b.view.log ≡ a.view.log
+  quiet_by x d e stays view =
+      ap (λ (c : Stand). c.view.log) view ∙ subst (λ (y : Step). (stand_after a y f).view.log ≡ a.view.log) (same_Some x d e) stays
+
+  quiet_told : (t : Stage) (d : Step) → stage_step k t ≡ Some d → b ≡ stand_after a d f → b.view.log ≡ a.view.log
+  quiet_told (Looks i) d e view = quiet_by (does K15 (StateOf i) Loads) d e refl view
+  quiet_told (Wants all) d e view = quiet_by (does K13 Want Loads) d e (wanted_quiet a f a.view.position) view
+  quiet_told Ends d e view = quiet_by (does K2 (StateOf k.by) (Stores 2)) d e refl view
+  quiet_told Ended d e view = absurd (cc)
+  quiet_told Stops d e view = quiet_by (does K14 Phase (Stores (phase_word (k.epoch + 1) codes.StopA))) d e refl view
+  quiet_told (Counts i) d e view = quiet_by (does K15 (StateOf i) Loads) d e refl view
+  quiet_told Begins d e view = quiet_by (does K16 Pending (Stores (k.by + 2))) d e refl view
+  quiet_told Marks d e view = quiet_by (does K14 Phase (Stores (phase_word k.epoch codes.Mark))) d e refl view
+  quiet_told Marking d e view = quiet_by (does K16 Pending Loads) d e refl view
+
 module _ {T : Type 0} (stand : T → Stand) (here : T → ℕ → Bool) (did : T → Step → Found → T → Type 0) (k : Kept) (s s' : T) where
   pub goes : (t : Stage) → k.stage ≡ t → (d : Step) (f : Found) → stage_step k t ≡ Some d → (d' : Step) → d' ≡ d →
       Made (stand s) (here s) d' f (stand s') (here s') → did s d' f s' →
@@ -93,6 +122,7 @@ module _ {T : Type 0} (stand : T → Stand) (here : T → ℕ → Bool) (did : T
     agrees = subst (λ k. Agrees k (stand s')) (sym after) (agrees made);
     done = done;
     idle = λ p w i. subst (λ t. IsIdleFor k t p w) (sym e) (idle_told k f.word t p w (sym answer ∙ i));
+    quiet = quiet_told k (stand s) (stand s') f t d named made.view;
   }
     where
       made : Made (stand s) (here s) d f (stand s') (here s')

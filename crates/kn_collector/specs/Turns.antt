@@ -21,9 +21,10 @@ module _ {T : Type 0} (stand : T → Stand) (here : T → ℕ → Bool) (did : T
     pub answer : reply ≡ answer_behind k k.stage found.word
 
   -- such a turn, behind which what is kept agrees with what is known, which is done exactly where the collector has ended, and
-  -- idle only where a word that it found tells why
+  -- idle only where a word that it found tells why; no entry is made in it
   pub record Goes (k : Kept) (s s' : T) (k' : Kept) (reply : Turn) : Type 0 where
     pub turned : Turned k s s' k' reply
     pub agrees : Agrees k' (stand s')
     pub done : (reply ≡ Done) ↔ HasEnded k'.stage
     pub idle : (p : Place) (w : ℕ) → reply ≡ Idle p w → IsIdleFor k k.stage p w
+    pub quiet : (stand s').view.log ≡ (stand s).view.log

@@ -3,7 +3,9 @@ ghost use Rattle.std.specs.Prelude.{◌≡◌, ℕ, ◌<◌, ◌↔◌, Bool, Is
 ghost use Rattle.kn_base.specs.declared.places.Place.{Place};
 ghost use Rattle.kn_base.specs.Sizes.{IsGood};
 ghost use Rattle.kn_graph.specs.Ground.{Ground, IsGoodGround};
+ghost use Rattle.kn_rule.specs.Decoding.{phase_of};
 ghost use Rattle.kn_rule.specs.Rule.{fresh};
+ghost use Rattle.kn_steps.specs.Made.{Stand};
 ghost use Rattle.kn_steps.specs.Turns.{OneTurn};
 ghost use Rattle.kn_steps.specs.declared.turns.Turn.TheVariants.{Done, Idle};
 ghost use Rattle.kn_collector.specs.declared.stage.Stage.TheVariants.{Looks, Wants, Ends, Stops, Counts, Begins, Marks, Marking};
@@ -64,6 +66,7 @@ impl Collector {
         ensures one { OneTurn T.stand T.here T.did T.moved steps.old steps.new }
         ensures done { (result ≡ Done) ↔ HasEnded self.new.stage }
         ensures idle { (p : Place) (w : ℕ) → result ≡ Idle p w → IsIdleFor self.old self.old.stage p w }
+        ensures quiet { (T.stand steps.new).view.log ≡ (T.stand steps.old).view.log }
     {
         self.goes_on(steps)
     }
@@ -84,6 +87,15 @@ impl Collector {
             Stage::Marks => self.marks(steps),
             Stage::Marking => self.waits(steps),
         }
+    }
+
+    /// The code of the phase that it stored last.
+    #[inline(always)]
+    pub fn code(&self) -> Code
+        ensures is { result ≡ Stages.code_at self.now.stage }
+        ensures stored { (a : Stand) → Agrees self.now a → (phase_of a.view.collecting.stored).code ≡ result }
+    {
+        code_at(self.stage)
     }
 
     /// Whether it has ended.
@@ -223,6 +235,20 @@ impl Collector {
         ensures { self.new ≡ record self.old { stage = stage } }
     {
         self.stage = stage;
+    }
+}
+
+// The code of the phase that a collector at a stage stored last.
+#[inline(always)]
+fn code_at(stage: Stage) -> Code
+    ensures { result ≡ Stages.code_at stage }
+{
+    match stage {
+        Stage::Counts(_) => Code::StopA,
+        Stage::Begins => Code::StopA,
+        Stage::Marks => Code::StopA,
+        Stage::Marking => Code::Mark,
+        _ => Code::Idle,
     }
 }
 

@@ -1,17 +1,19 @@
 -- How a run of a core may end.
-use Rattle.std.specs.Prelude.{ℕ, Bool, Option, List}
+use Rattle.std.specs.Prelude.{◌≡◌, ℕ, ◌<◌, Bool, true, Option, List}
 use Rattle.kn_script.specs.Scripts.{Scripted, ground_of}
 use Rattle.kn_io.specs.Devices.{Devices}
 use Rattle.kn_cms.specs.declared.words.TheConstants.{CORE_WORDS}
 use Rattle.kn_cms_trace.specs.CoreRuns.{CoreRun, IsCoreRecord, IsCoreRunOf, IsWholeRecord}
+use Rattle.kn_cms_trace.specs.Enough.{enough_turns}
 use Rattle.kn_cms_report.specs.CoreReports.{IsCoreText}
 use Rattle.kn_commands.specs.declared.status.Status.{Status}
 use Rattle.kn_commands.specs.Ends.{IsEnd, IsReported}
 
--- what the run of a core leaves: the turns were spent with some actor not ended, or each has ended; the history is one of the
--- core, and each thread's log answers the first of its calls
+-- what the run of a core leaves: the turns were spent with some actor not ended, and were fewer than are enough, or each has
+-- ended; the history is one of the core, and each thread's log answers the first of its calls
 pub record IsCoreLeft (script : Scripted) (is_spent : Bool) (last : CoreRun) : Type 0 where
   pub is_run : IsCoreRunOf script is_spent last
+  pub spent_below : is_spent ≡ true → script.turns < enough_turns script
   pub kept : IsCoreRecord script last.state
 
 -- the report of the run of a core: each thread answered all its calls, the collector has marked all, and the text tells it

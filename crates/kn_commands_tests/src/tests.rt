@@ -191,23 +191,47 @@ fn scripts_are_refused(rt: HostRuntime) -> Result<(), Fail> {
     Ok(())
 }
 
+/// Orders of a thread of 15 turns, and how many turns a run in that order takes. Between its ends the
+/// collector looks at the thread's state in one turn and at the epoch wanted in the next. It ends 3
+/// turns behind the thread's end, and 4 where it stands between the two.
+const ORDERS: [(&str, u32); 13] = [
+    ("", 32),
+    ("order r\n", 32),
+    ("order r@mark\n", 32),
+    ("order c\n", 34),
+    ("order 0*15\n", 18),
+    ("order 0 0*13 c*3\n", 22),
+    ("order 0/1\n", 22),
+    ("order 0/2\n", 20),
+    ("order 0/3 0/1\n", 18),
+    ("order 0@mark\n", 18),
+    ("order 0@idle c@idle r@idle\n", 32),
+    ("order r*3 0*12\n", 22),
+    ("order c@mark\n", 100_032),
+];
+
 /// One thread, which makes an object: it goes in by two steps, and polls for its call; it looks at
 /// the frame, claims it, takes its page, clears three words, bears the object and stores the local;
 /// the next poll answers the second call; the page and the frame go home, and the state is stored.
 #[test]
 fn a_run_is_of_single_steps(rt: HostRuntime) -> Result<(), Fail> {
     let report = format!(in rt.alloc(); "thread 0\nok\nyes\ncalls 2\n{TAIL}")?;
-    for (turns, wanted) in [(1, 3), (14, 3), (15, 0), (16, 0)] {
-        let script = format!(in rt.alloc();
-            "heap 1 64 0 64 0 2\nnames 0 0 0 0\nlayout fields ref int\nthreads 1\nturns {turns}\nthread 0\nnew 0 0\nsame 0 0\n"
-        )?;
-        let (number, text) = traced(rt.alloc(), script.as_str(), &[], &[])?;
-        let told = if wanted == 3 {
-            "turns spent\n"
-        } else {
-            report.as_str()
-        };
-        assert!(rt; number == wanted && text.as_slice() == told.as_bytes());
+    for (order, least) in ORDERS {
+        for (turns, wanted) in [(least.saturating_sub(1), 3), (least, 0)] {
+            let script = format!(in rt.alloc();
+                "heap 1 64 0 64 0 2\nnames 0 0 0 0\nlayout fields ref int\nthreads 1\nturns {turns}\nthread 0\nnew 0 0\nsame 0 0\n{order}"
+            )?;
+            let (number, text) = traced(rt.alloc(), script.as_str(), &[], &[])?;
+            let told = if wanted == 3 {
+                "turns spent\n"
+            } else {
+                report.as_str()
+            };
+            assert!(rt;
+                number == wanted && text.as_slice() == told.as_bytes(),
+                "{order} {turns}"
+            );
+        }
     }
     Ok(())
 }

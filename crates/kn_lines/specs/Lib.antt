@@ -6,3 +6,4 @@ pub mod Forms
 pub mod Values
 pub mod Ranges
 pub mod Kept
+pub mod Weights

@@ -53,15 +53,15 @@ pub struct Built {
 }
 
 /// What is built today: every header word, the calls up to `gget` (that is `new`, `newa`, `copy`,
-/// `clear`, `same`, `get`, `set`, `put`, `read`, `gset` and `gget`), and in the order a thread's
-/// number alone.
+/// `clear`, `same`, `get`, `set`, `put`, `read`, `gset` and `gget`), and in the order each part but
+/// `f` and `uC`.
 pub const TODAY: Built = Built {
     headers: [true; 7],
     calls: [
         true, true, true, true, true, true, true, true, true, true, true, false, false, false,
         false, false, false, false, false, false, false, false,
     ],
-    orders: [true, false, false, false, false, false, false, false],
+    orders: [true, true, false, true, true, true, true, false],
 };
 
 /// Every word.

@@ -24,6 +24,9 @@ use Rattle.kn_rule.specs.Views.{State, View}
 use Rattle.kn_steps.specs.Made.{LieAs, Made, Stand}
 use Rattle.kn_keep_mark.proofs.Keeps.{keeps_rule}
 use Rattle.kn_keep_heap.proofs.SmallWords.{locals_are_addresses, phases_are_small}
+use Rattle.kn_safepoint.specs.declared.stage.Stage.{Stage}
+use Rattle.kn_safepoint.specs.Agree.{Agrees as SafepointAgrees, StandsAt}
+use Rattle.kn_safepoint.specs.Kept.{Kept}
 use Rattle.kn_alloc.specs.declared.stage.Stage.TheVariants.{Resting}
 use Rattle.kn_alloc.specs.Agree.{Agrees as AllocAgrees, IsIdle}
 use Rattle.kn_alloc.proofs.Agreements.{stays_while_idle}
@@ -68,6 +71,11 @@ module _ (m : Mutating) (a : Stand) (here : ℕ → Bool) (g : Agrees m a here) 
 
   pub is_thread : a.by < a.heap.sizes.threads
   is_thread = let t = g.alloc.thread in let e = g.alloc.caller in omega arith
+
+  -- its safepoint agrees with what it knows, at a stage at which it stands
+  pub safepoint_agrees : (t : Stage) → StandsAt t a.view.position → (k : Kept) → k ≡ record { by = m.by; stage = t } → SafepointAgrees k a
+  safepoint_agrees t at k is =
+      subst (λ (k : Kept). SafepointAgrees k a) (sym is) (record { caller = by_is; thread = is_thread; at = at })
 
   -- the log of the view with an answer
   pub said_is : (call : Call) (reply : Reply) (address : ℕ) →

@@ -170,7 +170,7 @@ module _ {T : Type 0} (stand : T → Stand) (here : T → ℕ → Bool) (did : T
         (ends_sent m (stand s) (here s) g alloc (stand s') (here s') agrees tells kept idle (task_is Ends is)) (λ x. x) inl
         (record m { alloc = alloc }) (unchanged Ends is)
 
-  no_hands : (s1 : T) (stage : Stage) (alloc : Keeps) → WentHomeAt stand here did moved stage m.alloc s s1 alloc homes.Done → IsNoHand m.alloc.hands
+  pub no_hands : (s1 : T) (stage : Stage) (alloc : Keeps) → WentHomeAt stand here did moved stage m.alloc s s1 alloc homes.Done → IsNoHand m.alloc.hands
   no_hands s1 stages.Resting alloc h = h.none
   no_hands s1 _ alloc h = absurd h
 

@@ -1,15 +1,16 @@
 pub mod Core
 pub mod Making
 pub mod Turning
+pub mod WayIn
 pub mod Polling
 pub mod Heard
 pub mod Begins
 pub mod Opens
 pub mod Homes
 pub mod Born
-pub mod Waiting
 pub mod Ones
 pub mod Calling
 pub mod CallTurns
 pub mod Built
+pub mod Needs
 pub mod Awaiting

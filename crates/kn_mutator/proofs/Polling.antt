@@ -13,6 +13,7 @@ use Rattle.kn_graph.specs.declared.calls.Call.TheVariants as calls
 use Rattle.kn_graph.specs.declared.calls.Reply.{Reply}
 use Rattle.kn_graph.specs.declared.calls.Reply.TheVariants as replies
 use Rattle.kn_graph.specs.Answers.{yes_or_no}
+use Rattle.kn_graph.specs.Arguments.{IsInRange}
 use Rattle.kn_graph.specs.Counts.{births_among, makes_object}
 use Rattle.kn_graph.specs.Ground.{Ground}
 use Rattle.kn_rule.specs.declared.positions.Position.{Position}
@@ -34,7 +35,7 @@ use Rattle.kn_mutator.specs.declared.task.Task.{Task}
 use Rattle.kn_mutator.specs.declared.task.Task.TheVariants.{Births, Calls, Enters, Leaves, Polls}
 use Rattle.kn_mutator.specs.Agree.{Agrees, AtTask, HasAnswered, HasLeft, IsHeaderRead, IsObjectIn, Owes, Rests, Stands, UnderWay}
 use Rattle.kn_mutator.specs.After.{answered, resting_task, said}
-use Rattle.kn_mutator.specs.Begun.{RequestsCell, alone}
+use Rattle.kn_mutator.specs.Begun.{IsReady, RequestsCell, alone}
 use Rattle.kn_mutator.specs.Mutating.{Knows, Mutating}
 use Rattle.kn_mutator.specs.Tasks.{next_call}
 use Rattle.kn_mutator.proofs.Core.{addresses_made, agrees_then, all_get, alloc_then, answers_more, by_is, is_thread, rest_at, take_one_more}
@@ -157,6 +158,25 @@ module _ (m : Mutating) (a : Stand) (here : ℕ → Bool) (g : Agrees m a here) 
   next_is : (passed : Bool) (call : Call) → next_call m passed ≡ Some call → slice_get m.calls m.begun ≡ Some call
   next_is true call e = e
   next_is false call e = cc
+
+  -- an entering load may be a poll for the next call
+  pub may_enter : (passed : Bool) (next : Option Call) → next ≡ next_call m passed → MayEnterFor a.heap a.by a.view here a.view.target next
+  may_enter passed next e =
+      subst (λ t. MayEnterFor a.heap a.by a.view here t next) (sym free) (may_next next (λ call is. next_is passed call (sym e ∙ is)))
+
+  -- the next call may begin
+  pub ready_is : IsReady m
+  ready_is = record {
+    left = at.1;
+    room = subst (λ n. n < length m.calls) (sym at.0.answers.count) at.1;
+    resting = at.0.alloc;
+    sizes = sym g.alloc.sizes ∙ ap (λ (z : Ground). z.sizes) g.heap;
+    agrees = (a, here, g.alloc);
+  }
+
+  pub next_in_range : (passed : Bool) (next : Option Call) → next ≡ next_call m passed → (call : Call) → next ≡ Some call → IsInRange m.heap call
+  next_in_range passed next e call is =
+      all_get (IsInRange m.heap) m.calls m.begun call g.planned.in_range (next_is passed call (sym e ∙ is))
 
   pub may_poll : (passed : Bool) (next : Option Call) → next ≡ next_call m passed → MayPoll a.heap a.by a.view here Phase (LoadsFor next)
   may_poll passed next e = record {
@@ -347,8 +367,25 @@ module _ (m : Mutating) (a : Stand) (here : ℕ → Bool) (g : Agrees m a here) 
   at_task : (t : Task) → m.task ≡ t → AtTask t m a.view
   at_task t e = subst (λ t. AtTask t m a.view) e g.at
 
-  pub may_poll_at : ((m.task ≡ Enters) × (m.target ≡ None)) ⊎ (m.task ≡ Polls) → (passed : Bool) (next : Option Call) →
-      next ≡ next_call m passed →
-      MayPoll a.heap a.by a.view here Phase (LoadsFor next)
-  may_poll_at (inl e) = may_poll m a here g positions.Entering (inl refl) (rests_entering m a.view positions.Entering e.1 (at_task Enters e.0))
-  may_poll_at (inr e) = may_poll m a here g positions.Between (inr refl) (at_task Polls e)
+  module _ (is : m.task ≡ Enters) (none : m.target ≡ None) where
+    entering : Rests m a.view positions.Entering × HasLeft m
+    entering = rests_entering m a.view positions.Entering none (at_task Enters is)
+
+    pub may_enter_at : (passed : Bool) (next : Option Call) → next ≡ next_call m passed → MayEnterFor a.heap a.by a.view here a.view.target next
+    may_enter_at = may_enter m a here g positions.Entering (inl refl) entering
+
+    pub ready_entering : IsReady m
+    ready_entering = ready_is m a here g positions.Entering (inl refl) entering
+
+    pub range_entering : (passed : Bool) (next : Option Call) → next ≡ next_call m passed → (call : Call) → next ≡ Some call → IsInRange m.heap call
+    range_entering = next_in_range m a here g positions.Entering (inl refl) entering
+
+  module _ (is : m.task ≡ Polls) where
+    pub may_poll_at : (passed : Bool) (next : Option Call) → next ≡ next_call m passed → MayPoll a.heap a.by a.view here Phase (LoadsFor next)
+    may_poll_at = may_poll m a here g positions.Between (inr refl) (at_task Polls is)
+
+    pub ready_between : IsReady m
+    ready_between = ready_is m a here g positions.Between (inr refl) (at_task Polls is)
+
+    pub range_between : (passed : Bool) (next : Option Call) → next ≡ next_call m passed → (call : Call) → next ≡ Some call → IsInRange m.heap call
+    range_between = next_in_range m a here g positions.Between (inr refl) (at_task Polls is)

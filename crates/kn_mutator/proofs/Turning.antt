@@ -1,31 +1,32 @@
 -- A step of a task, and the turn that it makes.
-use Rattle.std.proofs.Common.{◌≡◌, ℕ, inl, Bool, true, false, cond, Option, None, refl, sym, ap, ◌∙◌, subst}
+use Rattle.std.proofs.Common.{◌≡◌, ℕ, Bool, true, false, cond, Option, None, refl, sym, ap, ◌∙◌, subst}
 use Rattle.kn_base.specs.declared.places.Place.TheVariants.{Local, Phase, State as StateOf}
 use Rattle.kn_rule.specs.declared.positions.Position.TheVariants as positions
 use Rattle.kn_rule.specs.declared.steps.Action.TheVariants.{LoadsFor, Stores}
 use Rattle.kn_rule.specs.declared.steps.Kind.TheVariants.{K2, K3}
-use Rattle.kn_rule.specs.Allowed.{MayStoreState}
 use Rattle.kn_rule.specs.Outcomes.{write_at}
-use Rattle.kn_base.specs.declared.kinds.Code.{Code}
-use Rattle.kn_base.specs.declared.kinds.Code.TheVariants as codes
 use Rattle.kn_rule.specs.Decoding.{phase_of}
 use Rattle.kn_rule.specs.Phases.{is_run}
-use Rattle.kn_rule.specs.Steps.{Found, Step, does, found, logged}
+use Rattle.kn_rule.specs.Steps.{Found, Step, does, logged}
 use Rattle.kn_rule.specs.Views.{View}
 use Rattle.kn_base.specs.Pages.{FrameView}
 use Rattle.kn_steps.specs.Made.{Made, Stand}
 use Rattle.kn_steps.specs.declared.turns.Turn.{Turn}
 use Rattle.kn_steps.specs.declared.turns.Turn.TheVariants.{Moved, Done}
+use Rattle.kn_safepoint.specs.declared.stage.Enter.{Enter}
+use Rattle.kn_safepoint.specs.declared.stage.Enter.TheVariants as enters
+use Rattle.kn_safepoint.specs.declared.stage.Stage.TheVariants as stages
+use Rattle.kn_safepoint.specs.Stages.{answer_behind}
 use Rattle.kn_alloc.specs.Agree.{IsIdle}
 use Rattle.kn_mutator.specs.declared.task.Task.{Task}
 use Rattle.kn_mutator.specs.declared.task.Task.TheVariants.{Out, GoesIn, Enters, Writes}
 use Rattle.kn_mutator.specs.Agree.{Agrees, AtTask, HasEnded, Rests, Stands}
 use Rattle.kn_mutator.specs.After.{resting_task}
 use Rattle.kn_mutator.specs.Mutating.{Mutating}
-use Rattle.kn_mutator.specs.Tasks.{has_left, has_single, idle_at, is_wait, poll_for, task_at}
+use Rattle.kn_mutator.specs.Tasks.{has_left, has_single, idle_at, poll_for, task_at, task_out, told}
 use Rattle.kn_mutator.specs.Turns.{Goes, asks_none}
 use Rattle.kn_mutator.proofs.Making.{goes_by, makes, moves_on, not_done, rest_goes_on}
-use Rattle.kn_mutator.proofs.Core.{addresses_made, agrees_then, by_is, is_thread, rest_at}
+use Rattle.kn_mutator.proofs.Core.{addresses_made, agrees_then, is_thread, rest_at}
 
 module _ (m : Mutating) (a : Stand) (here : ℕ → Bool) (g : Agrees m a here) where
   at_task : (t : Task) → m.task ≡ t → AtTask t m a.view
@@ -35,18 +36,6 @@ module _ (m : Mutating) (a : Stand) (here : ℕ → Bool) (g : Agrees m a here) 
   module _ (is : m.task ≡ GoesIn) where
     at_in : Stands m a.view positions.Out
     at_in = at_task GoesIn is
-
-    pub may_go_in : MayStoreState a.heap a.by a.view here (StateOf m.by) (Stores 1)
-    unfolding at_in
-    may_go_in = record {
-      value = 1;
-      place = ap StateOf (sym (by_is m a here g));
-      word = refl;
-      may = inl (
-        is_thread m a here g,
-        subst (λ p. Rattle.kn_rule.specs.Allowed.MayGo a.heap a.by a.view here p 1) (sym at_in.position) (inl refl),
-      );
-    }
 
     pub went_in : (f : Found) (b : Stand) (here' : ℕ → Bool) → Made a here (does K2 (StateOf m.by) (Stores 1)) f b here' →
         Agrees (record m { task = Enters }) b here'
@@ -98,75 +87,58 @@ module _ (m : Mutating) (a : Stand) (here : ℕ → Bool) (g : Agrees m a here) 
           ap (λ (x : Stand). x.view.position) e,
         )
 
--- a run phase is none in which a caller waits
-run_is_no_wait : (c : Code) → is_run c ≡ true → is_wait c ≡ false
-run_is_no_wait codes.Idle e = refl
-run_is_no_wait codes.StopA e = cc
-run_is_no_wait codes.Mark e = refl
-run_is_no_wait codes.Weak e = refl
-run_is_no_wait codes.StopB e = cc
-run_is_no_wait codes.Prep e = cc
-run_is_no_wait codes.Sweep e = refl
-
 -- a turn that is idle is not done
 pub idle_goes_on : (w : ℕ) (idle : Bool) → idle_at w idle ≡ Done → ⊥
 idle_goes_on w true e = cc
 idle_goes_on w false e = cc
 
+-- nor is one of which its safepoint tells
+told_goes_on : (enter : Enter) → told enter ≡ Done → ⊥
+told_goes_on enters.Moved e = cc
+told_goes_on (enters.Idle p w) e = cc
+told_goes_on (enters.Help n) e = cc
+told_goes_on (enters.In v) e = cc
+
 -- those turns
 module _ {T : Type 0} (stand : T → Stand) (here : T → ℕ → Bool) (did : T → Step → Found → T → Type 0)
     (moved : T → ℕ → Option FrameView → Option FrameView → T → Type 0) (m : Mutating) (s s' : T) (g : Agrees m (stand s) (here s)) where
-  pub goes_in : m.task ≡ GoesIn → (by : ℕ) → by ≡ m.by → (f : Found) →
-      Made (stand s) (here s) (does K2 (StateOf by) (Stores 1)) f (stand s') (here s') →
-      did s (does K2 (StateOf by) (Stores 1)) f s' → (q : Mutating) → q ≡ record m { task = Enters } →
-      Goes stand here did moved asks_none m s s' q Moved
-  goes_in is by e f made kept q is_q =
-      let d : Step = does K2 (StateOf m.by) (Stores 1) in
-      let made' : Made (stand s) (here s) d f (stand s') (here s') =
-      subst (λ b. Made (stand s) (here s) (does K2 (StateOf b) (Stores 1)) f (stand s') (here s')) e made in
-      let kept' : did s d f s' = subst (λ b. did s (does K2 (StateOf b) (Stores 1)) f s') e kept in
-      let m' : Mutating = record m { task = Enters } in
-      let agrees : Agrees m' (stand s') (here s') = went_in m (stand s) (here s) g is f (stand s') (here s') made' in
-      let entering : (stand s').view.position ≡ positions.Entering = agrees.at.position in
-      subst (λ q. Goes stand here did moved asks_none m s s' q Moved) (sym is_q)
-      (goes_by stand here did moved m s s' m' Moved asks_none GoesIn is
-      (makes stand here did moved m s s' m' Moved GoesIn is d f refl made' kept'
-      (sym (ap (task_at (has_left m') (has_single m'.alloc.hands) (stand s').view.header) entering)) refl refl)
-      refl refl refl agrees (moves_on Enters (λ x. x)))
+  module _ (is : m.task ≡ GoesIn) (f : Found) (made : Made (stand s) (here s) (does K2 (StateOf m.by) (Stores 1)) f (stand s') (here s'))
+      (kept : did s (does K2 (StateOf m.by) (Stores 1)) f s') where
+    pub goes_in : Goes stand here did moved asks_none m s s' (record m { task = Enters }) Moved
+    goes_in =
+        let d : Step = does K2 (StateOf m.by) (Stores 1) in
+        let m' : Mutating = record m { task = Enters } in
+        let agrees : Agrees m' (stand s') (here s') = went_in m (stand s) (here s) g is f (stand s') (here s') made in
+        let entering : (stand s').view.position ≡ positions.Entering = agrees.at.position in
+        goes_by stand here did moved m s s' m' Moved asks_none GoesIn is
+        (makes stand here did moved m s s' m' Moved GoesIn is d f refl made kept
+        (sym (ap (task_at (has_left m') (has_single m'.alloc.hands) (stand s').view.header) entering)) refl refl)
+        refl refl refl agrees (moves_on Enters (λ x. x))
 
   -- a look by a caller that is out
-  module _ (is : m.task ≡ Out) (w : ℕ) (page : FrameView)
-      (made : Made (stand s) (here s) (poll_for None) (found w page) (stand s') (here s'))
-      (kept : did s (poll_for None) (found w page) s') where
-    looked_as : (task : Task) → AtTask task (record m { task = task }) (stand s).view → task ≡ cond (is_run (phase_of w).code) GoesIn Out →
-        (HasEnded task → ⊥) → (wait : Bool) → wait ≡ is_wait (phase_of w).code → (reply : Turn) → reply ≡ idle_at w wait →
-        Goes stand here did moved asks_none m s s' (record m { task = task }) reply
-    looked_as task at e on wait ew reply answer =
-        let agrees = looked m (stand s) (here s) g is (found w page) (stand s') (here s') made task (λ _. at) in
+  module _ (is : m.task ≡ Out) (f : Found) (made : Made (stand s) (here s) (poll_for None) f (stand s') (here s'))
+      (kept : did s (poll_for None) f s') where
+    looked_as : (task : Task) → AtTask task (record m { task = task }) (stand s).view → task ≡ cond (is_run (phase_of f.word).code) GoesIn Out →
+        (HasEnded task → ⊥) → Goes stand here did moved asks_none m s s' (record m { task = task }) (told (answer_behind stages.Out f.word))
+    looked_as task at e on =
+        let reply : Turn = told (answer_behind stages.Out f.word) in
+        let agrees = looked m (stand s) (here s) g is f (stand s') (here s') made task (λ _. at) in
         goes_by stand here did moved m s s' (record m { task = task }) reply asks_none Out is
-        (makes stand here did moved m s s' (record m { task = task }) reply Out is (poll_for None) (found w page) refl made kept e refl
-        (answer ∙ ap (idle_at w) ew))
-        refl refl refl agrees (not_done reply task (λ d. idle_goes_on w wait (sym answer ∙ d)) on)
+        (makes stand here did moved m s s' (record m { task = task }) reply Out is (poll_for None) f refl made kept e refl refl)
+        refl refl refl agrees (not_done reply task (told_goes_on (answer_behind stages.Out f.word)) on)
 
     at_here : Stands m (stand s).view positions.Out
     at_here = subst (λ t. AtTask t m (stand s).view) is g.at
 
-    pub looks_in : (run : Bool) → run ≡ is_run (phase_of w).code → run ≡ true → (m' : Mutating) → m' ≡ record m { task = GoesIn } →
-        Goes stand here did moved asks_none m s s' m' Moved
-    looks_in run e is_so m' em =
-        let ran = sym e ∙ is_so in
-        subst (λ (q : Mutating). Goes stand here did moved asks_none m s s' q Moved) (sym em)
-        (looked_as GoesIn (record { position = at_here.position; owes = at_here.owes; alloc = at_here.alloc })
-        (sym (ap (λ q. cond q GoesIn Out) ran)) (λ x. x) false (sym (run_is_no_wait (phase_of w).code ran)) Moved refl)
-
-    pub stays_out : (run : Bool) → run ≡ is_run (phase_of w).code → run ≡ false → (wait : Bool) → wait ≡ is_wait (phase_of w).code →
-        (reply : Turn) → reply ≡ idle_at w wait → Goes stand here did moved asks_none m s s' m reply
-    stays_out run e is_not wait ew reply er =
-        let ran = sym e ∙ is_not in
-        let same : record m { task = Out } ≡ m = λ t. record m { task = sym is t } in
-        subst (λ (q : Mutating). Goes stand here did moved asks_none m s s' q reply) same
-        (looked_as Out (record { position = at_here.position; owes = at_here.owes; alloc = at_here.alloc })
-        (sym (ap (λ q. cond q GoesIn Out) ran)) (λ x. x) wait ew reply er)
+    -- by whether it loaded a run phase
+    pub looks : (run : Bool) → is_run (phase_of f.word).code ≡ run →
+        Goes stand here did moved asks_none m s s' (record m { task = task_out (cond run stages.GoesIn stages.Out) }) (told (answer_behind stages.Out f.word))
+    looks true e =
+        looked_as GoesIn (record { position = at_here.position; owes = at_here.owes; alloc = at_here.alloc })
+        (sym (ap (λ q. cond q GoesIn Out) e)) (λ x. x)
+    looks false e =
+        looked_as Out (record { position = at_here.position; owes = at_here.owes; alloc = at_here.alloc })
+        (sym (ap (λ q. cond q GoesIn Out) e)) (λ x. x)
 
   pub writes : (r w : ℕ) → m.task ≡ Writes r w → (by : ℕ) → by ≡ m.by → (v : ℕ) → v ≡ w → (f : Found) →
       Made (stand s) (here s) (does K3 (Local by r) (Stores v)) f (stand s') (here s') → did s (does K3 (Local by r) (Stores v)) f s' →

@@ -1,5 +1,5 @@
 -- A call that begins, and a birth that is made.
-use Rattle.std.specs.Prelude.{◌≡◌, ℕ, ◌+◌, ◌≤◌, Bool, true, false, not, Option, Some, None}
+use Rattle.std.specs.Prelude.{◌≡◌, ℕ, ◌+◌, ◌<◌, ◌≤◌, Bool, true, false, not, length, Option, Some, None}
 use Rattle.kn_base.specs.declared.places.Place.TheVariants.{Phase}
 use Rattle.kn_base.specs.declared.classes.TheConstants.{LEAST_CELL}
 use Rattle.kn_graph.specs.declared.calls.Call.{Call}
@@ -15,6 +15,7 @@ use Rattle.kn_steps.specs.Made.{Stand}
 use Rattle.kn_steps.specs.declared.turns.Turn.{Turn}
 use Rattle.kn_steps.specs.declared.turns.Turn.TheVariants.{Idle, Moved}
 use Rattle.kn_alloc.specs.declared.stage.Request.{Request}
+use Rattle.kn_alloc.specs.declared.stage.Stage.TheVariants.{Resting}
 use Rattle.kn_alloc.specs.Agree.{Agrees as AllocAgrees, HasBegun, IsGetting}
 use Rattle.kn_alloc.specs.Keeps.{IsHeaderOf, Keeps, Starts, header_asked, words_of_request}
 use Rattle.kn_mutator.specs.declared.task.Task.TheVariants.{Births, Calls, Leaves, Polls, Waits}
@@ -50,6 +51,14 @@ pub record RequestsCell (m : Mutating) (call : Call) (m' : Mutating) : Type 0 wh
   pub agrees : (a : Stand) (here : ℕ → Bool) → AllocAgrees m.alloc a here →
       HasBegun a words (header_for (birth_of m.heap call)) m.epoch → AllocAgrees alloc a here
   pub after : m' ≡ record m { begun = m.begun + 1; task = Births call; alloc = alloc }
+
+-- a call may begin: one is left, its log has room for the answer, and its allocator rests and agrees with some view
+pub record IsReady (m : Mutating) : Type 0 where
+  pub left : m.begun < length m.calls
+  pub room : length m.log < length m.calls
+  pub resting : m.alloc.stage ≡ Resting
+  pub sizes : m.alloc.sizes ≡ m.heap.sizes
+  pub agrees : (a : Stand) × (here : ℕ → Bool) × AllocAgrees m.alloc a here
 
 -- a call begins: it is answered at once, its cell is asked for, or it goes on with steps of its own
 abbrev pub BeginsAs : Mutating → Call → Option Reply → Bool → Mutating → Type 0

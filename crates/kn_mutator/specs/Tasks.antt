@@ -1,8 +1,6 @@
 -- What a mutator does next: the step of each task, and the task behind it.
 use Rattle.std.specs.Prelude.{ℕ, ◌+◌, Bool, true, false, cond, List, length, Option, Some, None, is_some, nat_le, nat_lt, slice_get, slice_index}
 use Rattle.kn_base.specs.declared.classes.TheConstants.{SINGLE_CLASS}
-use Rattle.kn_base.specs.declared.kinds.Code.{Code}
-use Rattle.kn_base.specs.declared.kinds.Code.TheVariants as codes
 use Rattle.kn_base.specs.declared.places.Place.TheVariants.{Phase, Want, State, Local, Global, Body}
 use Rattle.kn_graph.specs.declared.calls.Call.{Call}
 use Rattle.kn_graph.specs.declared.calls.Call.TheVariants.{Copy, Clear, Get, Set, Put, Read, GlobalSet, GlobalGet, Collect}
@@ -17,8 +15,13 @@ use Rattle.kn_rule.specs.Steps.{Step, does}
 use Rattle.kn_rule.specs.Views.{View, flattened}
 use Rattle.kn_steps.specs.declared.turns.Turn.{Turn}
 use Rattle.kn_steps.specs.declared.turns.Turn.TheVariants.{Moved, Idle}
+use Rattle.kn_safepoint.specs.declared.stage.Stage.{Stage}
+use Rattle.kn_safepoint.specs.declared.stage.Stage.TheVariants as stages
+use Rattle.kn_safepoint.specs.declared.stage.Enter.{Enter}
+use Rattle.kn_safepoint.specs.declared.stage.Enter.TheVariants as enters
+use Rattle.kn_safepoint.specs.Stages.{answer_behind as safepoint_answer}
 use Rattle.kn_alloc.specs.declared.stage.Hand.{Hand}
-use Rattle.kn_alloc.specs.declared.stage.Stage.{Stage}
+use Rattle.kn_alloc.specs.declared.stage.Stage.{Stage as AllocStage}
 use Rattle.kn_alloc.specs.declared.stage.Stage.TheVariants.{Resting}
 use Rattle.kn_mutator.specs.declared.task.Task.{Task}
 use Rattle.kn_mutator.specs.declared.task.Task.TheVariants.{Out, GoesIn, Enters, Polls, Calls, Births, Writes, Waits}
@@ -108,12 +111,15 @@ task_behind Out w m v = cond (is_run (phase_of w).code) GoesIn Out
 task_behind Enters w m v = cond (is_run (phase_of w).code) (task_by m v) Leaves
 task_behind _ w m v = task_by m v
 
--- a caller that is out waits in these phases
-abbrev pub is_wait : Code → Bool
-is_wait codes.StopA = true
-is_wait codes.StopB = true
-is_wait codes.Prep = true
-is_wait _ = false
+-- what a turn comes to, for what the safepoint answered: one that may help only goes on
+abbrev pub told : Enter → Turn
+told (enters.Idle p w) = Idle p w
+told _ = Moved
+
+-- the task of one that is out, for the stage of its safepoint
+abbrev pub task_out : Stage → Task
+task_out stages.GoesIn = GoesIn
+task_out _ = Out
 
 abbrev pub idle_at : ℕ → Bool → Turn
 idle_at w true = Idle Phase w
@@ -132,19 +138,19 @@ abbrev pub waits_on : Option ℕ → ℕ → Bool
 waits_on None w = false
 waits_on (Some n) w = cond (is_done n w) false (is_run (phase_of w).code)
 
--- what the turn of such a task answers: it is idle where a caller that is out waits, and where a target is waited for on
+-- what the turn of such a task answers: one that is out is told by its safepoint, and it is idle where a target is waited for on
 abbrev pub answer_behind : Task → Option ℕ → ℕ → Turn
-answer_behind Out target w = idle_at w (is_wait (phase_of w).code)
+answer_behind Out target w = told (safepoint_answer stages.Out w)
 answer_behind Enters target w = idle_at w (waits_on target w)
 answer_behind Waits target w = idle_at w (waits_on target w)
 answer_behind _ target w = Moved
 
 -- a single page is home where its frame was given back
-abbrev pub single_task : Stage → Task
+abbrev pub single_task : AllocStage → Task
 single_task Resting = Polls
 single_task _ = SendsSingle
 
 -- the task behind a turn in which a page goes home: pages that are not single go on until none is in hand
-abbrev pub task_home : Task → Stage → Task
+abbrev pub task_home : Task → AllocStage → Task
 task_home SendsSingle stage = single_task stage
 task_home task stage = task

@@ -10,6 +10,7 @@ use kn_alloc::HomeTurn;
 use kn_base::Place;
 use kn_page::Page;
 use kn_rule::Kind;
+use kn_safepoint::Stage;
 use kn_steps::{Steps, Turn};
 
 impl Mutator {
@@ -39,7 +40,7 @@ impl Mutator {
         match self.allocator.put_home_turn(steps) {
             HomeTurn::Moved => {}
             HomeTurn::Done => {
-                steps.store(Place::State(self.by), 0, Kind::K2);
+                self.safepoint(Stage::In).leave_turn(steps);
                 self.goes_to(Task::Out);
             }
         }

@@ -4,8 +4,8 @@
 //! its own turns change them. A turn makes exactly one step of the heap, or moves one page: which one
 //! is said task by task in `specs/Tasks.antt` and `specs/Turns.antt`. Between any two turns what a
 //! mutator keeps of its view is what the view has (`Agrees` in `specs/Agree.antt`). A mutator goes in
-//! and out as the phase says, and takes the epoch that its `gc` waits for along; it helps with no work
-//! of the collector.
+//! and out as the phase says, by the turns of a `Safepoint`, and takes the epoch that its `gc` waits for
+//! along; it helps with no work of the collector.
 #![tactic(auto)]
 
 mod births;
@@ -16,6 +16,7 @@ mod mutator;
 mod polls;
 mod task;
 mod waits;
+mod way_in;
 
 pub use gate::{Gate, OpenGate};
 pub use mutator::Mutator;

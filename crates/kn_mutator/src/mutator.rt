@@ -1,16 +1,15 @@
 //! The mutator, and its turns in and out.
 ghost use Rattle.std.specs.Prelude.{◌≡◌, ℕ, ◌<◌, ◌↔◌, [], ◌∷◌, ◌++◌, Bool, IfOk, IsTrue, length, slice_index, slice_index_or};
 ghost use Rattle.std.specs.List.{AllByRecursion};
-ghost use Rattle.kn_rule.specs.Decoding.{phase_of};
 ghost use Rattle.kn_rule.specs.Allowed.{IsBuilt};
 ghost use Rattle.kn_rule.specs.Rule.{fresh};
 ghost use Rattle.kn_rule.specs.Steps.{entry_of};
 ghost use Rattle.kn_steps.specs.Turns.{MetUnswept, OneTurn};
-ghost use Rattle.kn_steps.specs.declared.turns.Turn.TheVariants.{Done};
+ghost use Rattle.kn_steps.specs.declared.turns.Turn.TheVariants.{Done, Moved};
 ghost use Rattle.kn_script.specs.Good.{IsGoodScript};
 ghost use Rattle.kn_script.specs.Scripts.{ground_of};
 ghost use Rattle.kn_alloc.specs.Agree.{IsSweeping};
-ghost use Rattle.kn_mutator.specs.declared.task.Task.TheVariants.{Out, GoesIn, Writes};
+ghost use Rattle.kn_mutator.specs.declared.task.Task.TheVariants.{Leaves, Writes};
 ghost use Rattle.kn_mutator.specs.Mutating.{new_mutating};
 ghost use Rattle.kn_mutator.specs.Tasks;
 ghost use Rattle.kn_mutator.specs.After.{answered, assigned, referred, resting_task, said};
@@ -25,9 +24,10 @@ use kn_graph::{Call, Entry, Event, Reply};
 use kn_layout::{Layout, copy_layouts};
 use kn_page::Page;
 use kn_rule::Kind;
+use kn_safepoint::{Enter, Safepoint, Stage};
 use kn_script::Script;
 use kn_steps::{Steps, Turn};
-use kn_view::{reply_to_reference, runs};
+use kn_view::reply_to_reference;
 use std::alloc::{AllocError, Global};
 use std::marker::Model;
 
@@ -104,8 +104,8 @@ impl Mutator {
     /// Makes the next step of the task, or moves a page (`Turned` in `specs/Turns.antt`). It must not have
     /// ended. A poll asks the gate for the call that would begin next, by its number. A `gc` raises the epoch
     /// wanted, and then loads the phase turn by turn until that epoch is done; on its way out and in it keeps
-    /// its target, and asks no gate. `Idle` where it is out and the phase is one in which callers wait
-    /// (`is_wait`), where the gate let no call pass, or where it goes on waiting in a run phase (`waits_on`);
+    /// its target, and asks no gate. `Idle` where it is out and its safepoint is idle (`told`), where the gate
+    /// let no call pass, or where it goes on waiting in a run phase (`waits_on`);
     /// `Done` in the turn that stores that it has ended. Behind a turn that met an unswept frame and left its
     /// allocator at a sweep it makes no more.
     #[inline(always)]
@@ -163,31 +163,6 @@ impl Mutator {
         self.log
     }
 
-    // Out: the phase says whether it goes in.
-    fn looks<T: Steps<Page>>(&mut self, steps: &mut T) -> Turn
-        requires agrees { Agrees self.old (T.stand steps.old) (T.here steps.old) }
-        requires task { self.old.task ≡ Out }
-        ensures { Goes T.stand T.here T.did T.moved asks_none self.old steps.old steps.new self.new result }
-    {
-        let word = steps.poll(None);
-        if runs(word) {
-            self.goes_to(Task::GoesIn);
-            Turn::Moved
-        } else {
-            idle_at(word, is_wait(word))
-        }
-    }
-
-    fn goes_in<T: Steps<Page>>(&mut self, steps: &mut T) -> Turn
-        requires agrees { Agrees self.old (T.stand steps.old) (T.here steps.old) }
-        requires task { self.old.task ≡ GoesIn }
-        ensures { Goes T.stand T.here T.did T.moved asks_none self.old steps.old steps.new self.new result }
-    {
-        steps.store(Place::State(self.by), 1, Kind::K2);
-        self.goes_to(Task::Enters);
-        Turn::Moved
-    }
-
     fn writes<T: Steps<Page>>(&mut self, steps: &mut T, local: u8, value: u32) -> Turn
         requires agrees { Agrees self.old (T.stand steps.old) (T.here steps.old) }
         requires task { self.old.task ≡ Writes local value }
@@ -198,10 +173,27 @@ impl Mutator {
         Turn::Moved
     }
 
+    // Its safepoint at a stage.
+    #[inline(always)]
+    pub(crate) fn safepoint(&self, stage: Stage) -> Safepoint
+        ensures { result ≡ record { by = self.now.by; stage = stage } }
+    {
+        Safepoint::at(Caller(self.by), stage)
+    }
+
     pub(crate) fn goes_to(&mut self, task: Task)
         ensures { self.new ≡ record self.old { task = task } }
     {
         self.task = task;
+    }
+
+    // It goes out, and its pages go home first.
+    pub(crate) fn goes_out(&mut self) -> Turn
+        ensures task { self.new ≡ record self.old { task = Leaves } }
+        ensures answer { result ≡ Moved }
+    {
+        self.task = Task::Leaves;
+        Turn::Moved
     }
 
     // The call of a number.
@@ -305,17 +297,13 @@ fn first_task(calls: &[Call]) -> Task
     }
 }
 
-// Whether a caller that is out waits in the phase of a word.
-fn is_wait(word: u64) -> bool
-    ensures { result ≡ Tasks.is_wait (phase_of word).code }
+// What a turn comes to, for what the safepoint answered.
+pub(crate) fn told(enter: Enter) -> Turn
+    ensures { result ≡ Tasks.told enter }
 {
-    let code = word % 8;
-    if code == 1 {
-        true
-    } else if code == 4 {
-        true
-    } else {
-        code == 5
+    match enter {
+        Enter::Idle(place, word) => Turn::Idle(place, word),
+        Enter::Moved | Enter::Help(_) | Enter::In(_) => Turn::Moved,
     }
 }
 

@@ -1,17 +1,14 @@
 //! Polls, and what begins behind them.
-ghost use Rattle.std.specs.Prelude.{◌≡◌, ℕ, ◌<◌, ◌≤◌, ◌^◌, ◌⊎◌, Bool, Some, None, length};
+ghost use Rattle.std.specs.Prelude.{◌≡◌, ◌<◌, ◌≤◌, ◌^◌, Some, true};
 ghost use Rattle.kn_layout.specs.Layouts.{cell_size};
 ghost use Rattle.kn_graph.specs.Arguments.{IsInRange};
 ghost use Rattle.kn_graph.specs.Graph.{length_for};
 ghost use Rattle.kn_graph.specs.declared.calls.Call.{Call};
-ghost use Rattle.kn_steps.specs.Made.{Stand};
-ghost use Rattle.kn_alloc.specs.Agree.{Agrees as AllocAgrees};
 ghost use Rattle.kn_alloc.specs.declared.stage.Request.TheVariants.{Cell};
-ghost use Rattle.kn_alloc.specs.declared.stage.Stage.TheVariants.{Resting};
-ghost use Rattle.kn_mutator.specs.declared.task.Task.TheVariants.{Enters, Polls};
+ghost use Rattle.kn_mutator.specs.declared.task.Task.TheVariants.{Polls};
 ghost use Rattle.kn_mutator.specs.Tasks;
 ghost use Rattle.kn_mutator.specs.Agree.{Agrees};
-ghost use Rattle.kn_mutator.specs.Begun.{Begins, Hears, IsRequestFor};
+ghost use Rattle.kn_mutator.specs.Begun.{Begins, Hears, HearsAs, IsReady, IsRequestFor};
 ghost use Rattle.kn_mutator.specs.Turns.{Goes};
 
 use crate::gate::Gate;
@@ -30,7 +27,7 @@ impl Mutator {
     // another phase the mutator goes out.
     pub(crate) fn polls<T: Steps<Page>, G: Gate>(&mut self, steps: &mut T, gate: &G) -> Turn
         requires agrees { Agrees self.old (T.stand steps.old) (T.here steps.old) }
-        requires task { ((self.old.task ≡ Enters) × (self.old.target ≡ None)) ⊎ (self.old.task ≡ Polls) }
+        requires task { self.old.task ≡ Polls }
         ensures { Goes T.stand T.here T.did T.moved (G.told gate.now) self.old steps.old steps.new self.new result }
     {
         let passed = gate.pass(self.by, self.begun);
@@ -41,19 +38,26 @@ impl Mutator {
 
     // A phase word was found by a poll for this call.
     fn hears(&mut self, next: Option<Call>, word: u64) -> Turn
+        requires ready { IsReady self.old }
         requires next { (call : Call) → next ≡ Some call → IsInRange self.old.heap call }
-        requires left { self.old.begun < length self.old.calls }
-        requires room { length self.old.log < length self.old.calls }
-        requires resting { self.old.alloc.stage ≡ Resting }
-        requires sizes { self.old.alloc.sizes ≡ self.old.heap.sizes }
-        requires agrees { (a : Stand) × (here : ℕ → Bool) × AllocAgrees self.old.alloc a here }
         requires word { word < 2 ^ 35 }
         ensures { Hears self.old next word self.new result }
     {
-        if !runs(word) {
-            self.goes_to(Task::Leaves);
-            return Turn::Moved;
+        if runs(word) {
+            self.hears_in(next, word)
+        } else {
+            self.goes_out()
         }
+    }
+
+    // A run phase was found by a poll for this call.
+    #[inline(always)]
+    pub(crate) fn hears_in(&mut self, next: Option<Call>, word: u64) -> Turn
+        requires ready { IsReady self.old }
+        requires next { (call : Call) → next ≡ Some call → IsInRange self.old.heap call }
+        requires word { word < 2 ^ 35 }
+        ensures { HearsAs self.old true next word self.new result }
+    {
         self.polled_in(pauses_before(word));
         match next {
             None => {
@@ -68,7 +72,7 @@ impl Mutator {
     }
 
     // The call that begins next, where the gate lets it pass.
-    fn next_call(&self, passed: bool) -> Option<Call>
+    pub(crate) fn next_call(&self, passed: bool) -> Option<Call>
         ensures { result ≡ Tasks.next_call self.now passed }
     {
         if passed {
@@ -86,12 +90,8 @@ impl Mutator {
 
     // A call begins in the epoch of the last poll.
     fn begins(&mut self, call: Call)
-        requires left { self.old.begun < length self.old.calls }
-        requires room { length self.old.log < length self.old.calls }
+        requires ready { IsReady self.old }
         requires in_range { IsInRange self.old.heap call }
-        requires resting { self.old.alloc.stage ≡ Resting }
-        requires sizes { self.old.alloc.sizes ≡ self.old.heap.sizes }
-        requires agrees { (a : Stand) × (here : ℕ → Bool) × AllocAgrees self.old.alloc a here }
         ensures { Begins self.old call self.new }
     {
         self.begun += 1;

@@ -1,13 +1,12 @@
 //! Waiting for the epoch of a `gc`.
 ghost use Rattle.std.specs.Prelude.{◌≡◌, ℕ, ◌<◌, ◌^◌, Option, Some, length};
 ghost use Rattle.kn_graph.specs.declared.calls.Call.TheVariants.{Collect};
-ghost use Rattle.kn_mutator.specs.declared.task.Task.TheVariants.{Enters, Calls, Waits};
+ghost use Rattle.kn_mutator.specs.declared.task.Task.TheVariants.{Calls, Waits};
 ghost use Rattle.kn_mutator.specs.After.{awaited, told_epoch};
 ghost use Rattle.kn_mutator.specs.Agree.{Agrees};
 ghost use Rattle.kn_mutator.specs.Begun.{WaitsIn};
-ghost use Rattle.kn_mutator.specs.Turns.{Goes, GoesOrStops, asks_none};
+ghost use Rattle.kn_mutator.specs.Turns.{Goes, asks_none};
 
-use crate::gate::Gate;
 use crate::mutator::{Mutator, idle_at};
 use crate::task::Task;
 use kn_base::Place;
@@ -18,18 +17,6 @@ use kn_steps::{Steps, Turn};
 use kn_view::{is_done, pauses_before, runs};
 
 impl Mutator {
-    // Entering: the phase is loaded for the epoch that it waits for, or else for the next call.
-    pub(crate) fn enters<T: Steps<Page>, G: Gate>(&mut self, steps: &mut T, gate: &G) -> Turn
-        requires agrees { Agrees self.old (T.stand steps.old) (T.here steps.old) }
-        requires task { self.old.task ≡ Enters }
-        ensures { GoesOrStops T.stand T.here T.did T.moved (G.told gate.now) self.old steps.old steps.new self.new result }
-    {
-        match self.target {
-            None => self.polls(steps, gate),
-            Some(target) => self.enters_for(steps, target),
-        }
-    }
-
     // Raises the epoch wanted to the one behind its own, and waits for it.
     pub(crate) fn collects<T: Steps<Page>>(&mut self, steps: &mut T) -> Turn
         requires agrees { Agrees self.old (T.stand steps.old) (T.here steps.old) }
@@ -48,22 +35,6 @@ impl Mutator {
     {
         self.target = Some(target);
         self.task = Task::Waits;
-    }
-
-    // Entering, with an epoch wanted: a run phase lets it in, and is judged.
-    fn enters_for<T: Steps<Page>>(&mut self, steps: &mut T, target: u64) -> Turn
-        requires agrees { Agrees self.old (T.stand steps.old) (T.here steps.old) }
-        requires task { self.old.task ≡ Enters }
-        requires target { self.old.target ≡ Some target }
-        ensures { Goes T.stand T.here T.did T.moved asks_none self.old steps.old steps.new self.new result }
-    {
-        let word = steps.poll(None);
-        if runs(word) {
-            self.waits_in(target, word)
-        } else {
-            self.goes_to(Task::Leaves);
-            Turn::Moved
-        }
     }
 
     // In, with an epoch wanted: each phase is judged, and one that is no run phase makes it leave.
@@ -94,7 +65,7 @@ impl Mutator {
     }
 
     // In a run phase, which is polled: it is answered, or goes on waiting.
-    fn waits_in(&mut self, target: u64, word: u64) -> Turn
+    pub(crate) fn waits_in(&mut self, target: u64, word: u64) -> Turn
         requires room { length self.old.log < length self.old.calls }
         requires word { word < 2 ^ 35 }
         ensures { WaitsIn self.old target word self.new result }

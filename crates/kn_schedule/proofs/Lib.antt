@@ -1,1 +1,2 @@
-pub mod Next
+mod Passed
+mod Spent

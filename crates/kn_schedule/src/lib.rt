@@ -1,12 +1,12 @@
-//! The order of turns: which thread takes the next turn, where a turn is one atomic step.
+//! The order of turns: which thread, or the collector, takes the next turn, where a turn is one step.
 //!
-//! This crate owns the order of turns (`IsNext` in `specs/Schedules.antt`), and is asked before each
-//! turn. A schedule keeps the threads that order words name and the place of the round; only
-//! `next_turn` changes them. Between any two calls each thread named is one of the schedule's, and
-//! the place of the round is at most their number. Who has ended is not kept here, but told in each
-//! call.
+//! This crate owns what order words ask for (`specs/Asks.antt`) and the order of turns (`IsNext` in
+//! `specs/Schedules.antt`), and is asked before each turn. Order words come first, and behind them
+//! rounds. Only `next_turn` changes a schedule. Who has ended, how many calls each thread has answered
+//! and the code of the phase are not kept here, but told in each call.
 #![tactic(auto)]
 
+mod asking;
 mod schedule;
 
 pub use schedule::Schedule;

@@ -250,12 +250,11 @@ fn words_that_are_not_built_are_unknown(rt: HostRuntime) -> Result<(), Fail> {
         ("gc", "7 Word"),
         ("order 1 0 1", "good"),
         ("order 2", "7 Range"),
-        ("order 0*1", "7 Word"),
-        ("order 0/1", "7 Word"),
-        ("order 0@idle", "7 Word"),
-        ("order r", "7 Word"),
-        ("order c", "7 Word"),
+        ("order 0*1 1/2 0@idle c c*3 c@mark r r*4 r@sweep", "good"),
+        ("order c/1", "7 Word"),
+        ("order r/1", "7 Word"),
         ("order f", "7 Word"),
+        ("order f*2", "7 Word"),
         ("order u0", "7 Word"),
     ];
     for (line, wanted) in table {

@@ -1,5 +1,5 @@
 -- What the last turn of a run leaves.
-use Rattle.std.proofs.Common.{◌≡◌, ℕ, zero, suc, ◌+◌, ◌-◌, ◌*◌, ◌^◌, ◌<◌, ◌≤◌, ◌⊎◌, inl, inr, false}
+use Rattle.std.proofs.Common.{◌≡◌, ℕ, zero, suc, ◌+◌, ◌-◌, ◌*◌, ◌^◌, ◌<◌, ◌≤◌, ◌⊎◌, inl, inr}
 use Rattle.std.proofs.Common.{List, [], ◌∷◌, ◌++◌, length, map, take, drop}
 use Rattle.std.proofs.Common.{Some, get_or, slice_get, sum_by, refl, sym, ap, ◌∙◌, subst, arith, length-append}
 use Rattle.std.specs.Option.{option_map}
@@ -7,8 +7,9 @@ use Rattle.std.specs.Prelude.{All}
 use Rattle.std.proofs.lemmas.List.{get_or_past, get_or_append_left, get_or-append_right, take-append-drop}
 use lib.ListN.{length-map}
 use Rattle.std.proofs.lemmas.List.Elements.{All-from_get_or}
-use Rattle.std.proofs.lemmas.List.Sums.{get_or-le-sum_by, sum_by-le}
+use Rattle.std.proofs.lemmas.List.Sums.{sum_by-le}
 use Rattle.std.proofs.lemmas.Option.{slice_get_within, slice_get_cases, slice_get-map, get_or_from_slice_get}
+use Rattle.kn_base.proofs.Updates.{split_at}
 use Rattle.kn_graph.specs.declared.calls.Call.{Call}
 use Rattle.kn_graph.specs.declared.entries.Entry.{Entry}
 use Rattle.kn_graph.specs.Ground.{Ground}
@@ -19,11 +20,11 @@ use Rattle.kn_script.specs.Good.{IsGoodScript}
 use Rattle.kn_script.specs.Scripts.{Scripted, ground_of}
 use Rattle.kn_board.specs.World.{World, Sound, view_at}
 use Rattle.kn_mutator.specs.Mutating.{Mutating}
-use Rattle.kn_trace.specs.Traces.{Trace, ends, is_end}
+use Rattle.kn_trace.specs.Traces.{Trace}
 use Rattle.kn_trace.specs.Runs.{AreComplete, ArePartial, HaveEnded, IsStart, calls_at}
 use Rattle.kn_trace.specs.Between.{Holds, Stays, calls_of_all, logs_of}
-use Rattle.kn_trace.proofs.Flags.{has_ended}
-use Rattle.kn_trace.proofs.Logs.{answered, answered_all, leads, logged, no_calls}
+use Rattle.kn_trace.proofs.Flags.{has_ended, thread_flag}
+use Rattle.kn_trace.proofs.Logs.{answered, answered_all, leads, logged, no_calls, short_log}
 
 two_empty : (i : ℕ) → get_or {A = List Entry} ([] ∷ [] ∷ []) i [] ≡ []
 two_empty zero = refl
@@ -57,11 +58,16 @@ module _ (s : Scripted) (good : IsGoodScript s) (start last : Trace) (is_start :
       logged last.board sound c (omega arith) ∙ (h.agree c m is).knows.log
 
   -- the callers that are no threads say nothing
+  view_quiet : (c : ℕ) → length last.mutators ≤ c → c < s.sizes.threads + 2 → (view_at last.board c).log ≡ []
+  view_quiet c from to = split_at (λ d. d ≤ last.board.heap.sizes.threads + 1 → last.board.heap.sizes.threads ≤ d → (view_at last.board d).log ≡ [])
+      last.board.heap.sizes.threads (λ _ _. h.quiet) c
+      (λ ne most least.
+      let is : c ≡ last.board.heap.sizes.threads + 1 = omega (arith, ne, most, least) in
+      ap (λ d. (view_at last.board d).log) is ∙ ap (λ (v : View). v.log) h.at_rest)
+      (let e = threads_are in omega (arith, to)) (let n = h.count in omega (arith, from))
+
   silent : (c : ℕ) → length last.mutators ≤ c → c < s.sizes.threads + 2 → log_of c last.board.history ≡ []
-  silent c from to =
-      let n = h.count in
-      let e = threads_are in
-      logged last.board sound c (omega arith) ∙ ap (λ (v : View). v.log) (h.at_rest c (omega arith) (omega arith))
+  silent c from to = let e = threads_are in logged last.board sound c (omega arith) ∙ view_quiet c from to
 
   -- the mutator of a thread, or none
   abbrev Cases : ℕ → Type 0
@@ -95,18 +101,16 @@ module _ (s : Scripted) (good : IsGoodScript s) (start last : Trace) (is_start :
   partial c = partial_at c (cases c)
 
   -- where all have ended, each log is complete
-  complete_at : HaveEnded last.mutators → (c : ℕ) → Cases c → IsComplete (log_of c last.board.history) (calls_at s.threads c)
+  complete_at : HaveEnded last.mutators last.collector → (c : ℕ) → Cases c → IsComplete (log_of c last.board.history) (calls_at s.threads c)
   complete_at end c (inl there) =
       let m = there.0 in
       let near = slice_get_within last.mutators c m there.1 in
-      let flag = sym (get_or_from_slice_get (ends last.mutators) c (is_end m.task) false
-      (slice_get-map (λ (n : Mutating). is_end n.task) last.mutators c ∙ ap (option_map (λ (n : Mutating). is_end n.task)) there.1))
-      ∙ end c near in
+      let flag = sym (thread_flag last.mutators last.collector c m there.1) ∙ end c (omega arith) in
       ap calls_of (log_is c m there.1)
       ∙ (answered_all m.task m (view_at last.board c) (has_ended m.task flag) (h.agree c m there.1).at ∙ its_calls c m there.1)
   complete_at end c (inr past) = none_past c past ∙ sym (get_or_past s.threads c [] (let n = count in omega arith))
 
-  pub complete : HaveEnded last.mutators → AreComplete s last.board.history
+  pub complete : HaveEnded last.mutators last.collector → AreComplete s last.board.history
   complete end c = complete_at end c (cases c)
 
   -- the logs fit the history
@@ -136,21 +140,7 @@ module _ (s : Scripted) (good : IsGoodScript s) (start last : Trace) (is_start :
   short_at : (c : ℕ) → c < s.sizes.threads + 2 → Cases c → length (log_of c last.board.history) ≤ 16384
   short_at c to (inl there) =
       let m = there.0 in
-      let agrees = h.agree c m there.1 in
-      let answers = answered m.task m (view_at last.board c) agrees.at in
-      let near = slice_get_within last.mutators c m there.1 in
-      let n = h.count in
-      let lists = good.sizes.of_threads.lists.0 in
-      let few = good.sizes.of_threads.threads.1 in
-      let e = threads_are in
-      let part = get_or-le-sum_by (λ k. k) s.sizes.calls c 0 (omega arith) in
-      let by : c ≡ m.by = agrees.alloc.caller ∙ agrees.caller in
-      let ground = sym agrees.heap ∙ ground_is in
-      let its : get_or s.sizes.calls c 0 ≡ length m.calls =
-      ap (λ k. get_or s.sizes.calls k 0) by ∙ (ap (λ (z : Ground). get_or z.sizes.calls m.by 0) (sym ground) ∙ agrees.planned.calls_are) in
-      let same = ap (λ (x : List Entry). length x) (log_is c m there.1) in
-      let all = good.sizes.of_threads.calls in
-      omega (arith, answers.1.count, answers.1.within)
+      subst (λ (x : List Entry). length x ≤ 16384) (sym (log_is c m there.1)) (short_log last.board c m (h.agree c m there.1))
   short_at c to (inr past) = omega (arith, ap (λ (x : List Entry). length x) (silent c past to))
 
   pub few : sum_by (λ (log : List Entry). length log) (logs_of last.mutators) < 2 ^ 32

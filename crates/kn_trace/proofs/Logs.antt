@@ -1,9 +1,11 @@
 -- The logs of a run.
-use Rattle.std.proofs.Common.{◌≡◌, ℕ, ◌<◌, ◌≤◌, inl, inr, List, []}
-use Rattle.std.proofs.Common.{◌∷◌, ◌++◌, Option, Some, None, take}
+use Rattle.std.proofs.Common.{◌≡◌, ℕ, suc, ◌<◌, ◌≤◌, inl, inr, List, []}
+use Rattle.std.proofs.Common.{◌∷◌, ◌++◌, Option, Some, None, length, map, slice_get, take}
 use Rattle.std.proofs.Common.{refl, sym, ap, ◌∙◌, subst, arith}
 use Rattle.std.proofs.Math.Seq.{take-length}
 use Rattle.std.proofs.lemmas.Bool.Decides.{eqb_tells}
+use Rattle.std.proofs.lemmas.List.{length-take-le}
+use Rattle.std.proofs.lemmas.List.Sums.{get_or-le-sum_by}
 use Rattle.kn_base.specs.Functions.{Tells}
 use Rattle.kn_graph.specs.declared.calls.Call.{Call}
 use Rattle.kn_graph.specs.declared.entries.Event.{Event}
@@ -21,6 +23,7 @@ use Rattle.kn_mutator.specs.declared.task.Task.TheVariants.{Out, GoesIn, Enters,
 use Rattle.kn_mutator.specs.declared.task.Task.TheVariants.{SendsSingle, Leaves, Ends, Ended}
 use Rattle.kn_mutator.specs.Agree.{HasAnswered, AtTask, HasEnded, Owes}
 use Rattle.kn_mutator.specs.Mutating.{Mutating}
+use Rattle.kn_trace.specs.Between.{AgreesAt}
 
 -- whatever is owed, the log answers some of the calls
 owed : (m : Mutating) (target : Option ℕ) → Owes m target → (n : ℕ) × HasAnswered m.log m.calls n
@@ -46,6 +49,31 @@ answered Ended m v at = (m.begun, at.1)
 pub answered_all : (task : Task) (m : Mutating) (v : View) → HasEnded task → AtTask task m v → calls_of m.log ≡ m.calls
 answered_all Ended m v end at = at.1.calls ∙ (ap (λ n. take n m.calls) at.2 ∙ take-length m.calls)
 answered_all _ m v end at = absurd end
+
+-- the entries of a mutator's log are those of its calls, and they are few
+module _ (w : World) (c : ℕ) (m : Mutating) (agrees : AgreesAt w c m) where
+  pub calls_alone : length m.log ≡ length (calls_of m.log)
+  calls_alone =
+      let a = answered m.task m (view_at w c) agrees.at in
+      a.1.count ∙ sym (ap (λ (x : List Call). length x) a.1.calls ∙ length-take-le a.0 m.calls a.1.within)
+
+  pub short_log : length m.log ≤ 16384
+  short_log =
+      let a = answered m.task m (view_at w c) agrees.at in
+      let sizes = agrees.planned.good.sizes in
+      let lists = sizes.of_threads.lists.0 in
+      let few = sizes.of_threads.threads.1 in
+      let near = agrees.planned.thread in
+      let part = get_or-le-sum_by (λ k. k) m.heap.sizes.calls m.by 0 (omega arith) in
+      let its = agrees.planned.calls_are in
+      let all = sizes.of_threads.calls in
+      omega (arith, a.1.count, a.1.within)
+
+-- so counts of entries are counts of calls
+pub counts_are : (ms : List Mutating) → ((i : ℕ) (m : Mutating) → slice_get ms i ≡ Some m → length m.log ≡ length (calls_of m.log)) →
+    map (λ (m : Mutating). length m.log) ms ≡ map (λ (m : Mutating). length (calls_of m.log)) ms
+counts_are [] each = refl
+counts_are (m ∷ ms) each = λ t. each 0 m refl t ∷ counts_are ms (λ i n is. each (suc i) n is) t
 
 -- an entry of one that is no thread answers no call
 no_call : (z : Ground) (by epoch : ℕ) (what : Event) (g g' : Graph) → z.sizes.threads ≤ by → EventFollows z by epoch what g g' →

@@ -1,24 +1,20 @@
 -- What is opened of a script.
-use Rattle.std.proofs.Common.{◌≡◌, ℕ, zero, suc, ◌+◌, ◌<◌, Bool, false, List, [], ◌∷◌, ◌++◌, length}
+use Rattle.std.proofs.Common.{◌≡◌, ℕ, zero, suc, ◌+◌, ◌-◌, ◌<◌, Bool, false, List, [], ◌∷◌, ◌++◌, length, map, replicate, take}
 use Rattle.std.proofs.Common.{Some, slice_get, refl, sym, ap}
 use Rattle.std.proofs.Common.{◌∙◌, subst, arith, length-append}
-use Rattle.std.specs.Prelude.{All, filter_map}
 use Rattle.std.specs.List.{AllByRecursion}
-use Rattle.std.proofs.lemmas.List.{map-append}
-use Rattle.std.proofs.lemmas.List.Elements.{All-from_recursion}
+use Rattle.std.proofs.lemmas.List.{take_all}
+use Rattle.std.proofs.lemmas.Option.{slice_get_within, same_Some}
 use Rattle.kn_base.proofs.Updates.{split_at}
 use Rattle.kn_graph.specs.declared.calls.Call.{Call}
 use Rattle.kn_rule.specs.Allowed.{IsBuilt}
 use Rattle.kn_rule.specs.Rule.{fresh}
-use Rattle.kn_lines.specs.declared.orders.Actor.TheVariants as who
-use Rattle.kn_lines.specs.declared.orders.OrderWord.{OrderWord}
-use Rattle.kn_lines.specs.declared.orders.OrderWord.TheVariants.{Run, Uninstall}
-use Rattle.kn_lines.specs.Ranges.{IsOrderWord}
 use Rattle.kn_script.specs.Scripts.{Scripted, ground_of}
+use Rattle.kn_collector.specs.Kept.{new_kept}
 use Rattle.kn_mutator.specs.Agree.{Agrees}
 use Rattle.kn_mutator.specs.Mutating.{Mutating, first_task, new_mutating}
 use Rattle.kn_trace.specs.Traces.{ends, is_end}
-use Rattle.kn_trace.specs.Runs.{AreBuilt, calls_at, named}
+use Rattle.kn_trace.specs.Runs.{AreBuilt, calls_at}
 use Rattle.kn_trace.specs.Between.{AreNew}
 
 get_left : {A : Type 0} (xs ys : List A) (i : ℕ) (x : A) → slice_get xs i ≡ Some x → slice_get (xs ++ ys) i ≡ Some x
@@ -30,18 +26,6 @@ get_last : {A : Type 0} (xs : List A) (x : A) → slice_get (xs ++ x ∷ []) (le
 get_last [] x = refl
 get_last (y ∷ xs) x = get_last xs x
 
--- the threads that a good order names are among the threads
-named_below : (n : ℕ) (order : List OrderWord) → AllByRecursion (IsOrderWord n) order → AllByRecursion (λ thread. thread < n) (filter_map named order)
-named_below n [] all = tt
-named_below n (Run (who.Thread thread) until ∷ order) all = (all.0.0, named_below n order all.1)
-named_below n (Run who.Collector until ∷ order) all = named_below n order all.1
-named_below n (Run who.Finalizer until ∷ order) all = named_below n order all.1
-named_below n (Run who.Round until ∷ order) all = named_below n order all.1
-named_below n (Uninstall cleaner ∷ order) all = named_below n order all.1
-
-pub all_below : (n : ℕ) (order : List OrderWord) → AllByRecursion (IsOrderWord n) order → All (λ thread. thread < n) (filter_map named order)
-all_below n order all = All-from_recursion (λ thread. thread < n) (filter_map named order) (named_below n order all)
-
 -- the calls of each thread are built
 pub built_at : (threads : List (List Call)) (thread : ℕ) → AreBuilt threads → AllByRecursion IsBuilt (calls_at threads thread)
 built_at [] thread all = tt
@@ -51,6 +35,23 @@ built_at (calls ∷ threads) (suc thread) all = built_at threads thread all.1
 goes_first : (calls : List Call) → is_end (first_task calls) ≡ false
 goes_first [] = refl
 goes_first (call ∷ calls) = refl
+
+-- an empty list that was filled up
+pub filled : {B : Type 0} (old new : List B) (long n : ℕ) (b : B) → old ≡ [] → long ≡ 0 → new ≡ take n old ++ replicate (n - long) b →
+    new ≡ replicate n b
+filled old new long n b none short is =
+    let all : n - long ≡ n = omega (arith, short) in
+    is
+    ∙ (ap (λ o. take n o ++ replicate (n - long) b) none
+    ∙ (ap (λ l. l ++ replicate (n - long) b) (take_all n [] (omega arith)) ∙ ap (λ k. replicate k b) all))
+
+-- a list whose elements are all the same
+all_same : {B : Type 0} (f : Mutating → B) (b : B) (ms : List Mutating) →
+    ((i : ℕ) (m : Mutating) → slice_get ms i ≡ Some m → f m ≡ b) → map f ms ++ b ∷ [] ≡ replicate (length ms + 1) b
+all_same f b [] each = refl
+all_same f b (m ∷ ms) each =
+    let long : suc (length ms + 1) ≡ suc (length ms) + 1 = omega arith in
+    (λ t. each 0 m refl t ∷ all_same f b ms (λ i n is. each (suc i) n is) t) ∙ ap (λ n. replicate n b) long
 
 module _ (s : Scripted) where
   pub none_new : AreNew s 0 []
@@ -71,9 +72,21 @@ module _ (s : Scripted) where
         (λ ne l. new.agree thread (omega arith)) near;
   }
 
-  pub one_flag : (n : ℕ) (ms : List Mutating) (m : Mutating) (flags : List Bool) → flags ≡ ends ms →
-      m ≡ new_mutating (ground_of s) n (calls_at s.threads n) → flags ++ false ∷ [] ≡ ends (ms ++ m ∷ [])
-  one_flag n ms m flags same is =
-      ap (λ (x : List Bool). x ++ false ∷ []) same
-      ∙ (ap (λ b. ends ms ++ b ∷ []) (sym (ap (λ (x : Mutating). is_end x.task) is ∙ goes_first (calls_at s.threads n)))
-      ∙ sym (map-append (λ (x : Mutating). is_end x.task) ms (m ∷ [])))
+  -- no mutator has ended or answered a call
+  new_at : (n : ℕ) (ms : List Mutating) → AreNew s n ms → (i : ℕ) (m : Mutating) → slice_get ms i ≡ Some m →
+      m ≡ new_mutating (ground_of s) i (calls_at s.threads i)
+  new_at n ms new i m is =
+      let near = slice_get_within ms i m is in
+      let count = new.count in
+      same_Some m (new_mutating (ground_of s) i (calls_at s.threads i)) (sym is ∙ new.each i (omega arith))
+
+  pub first_flags : (n : ℕ) (ms : List Mutating) → AreNew s n ms → replicate (n + 1) false ≡ ends ms (new_kept s.sizes.threads)
+  first_flags n ms new =
+      ap (λ k. replicate (k + 1) false) (sym new.count)
+      ∙ sym (all_same (λ m. is_end m.task) false ms
+      (λ i m is. ap (λ (x : Mutating). is_end x.task) (new_at n ms new i m is) ∙ goes_first (calls_at s.threads i)))
+
+  pub first_counts : (n : ℕ) (ms : List Mutating) → AreNew s n ms → replicate (n + 1) 0 ≡ map (λ (m : Mutating). length m.log) ms ++ 0 ∷ []
+  first_counts n ms new =
+      ap (λ k. replicate (k + 1) 0) (sym new.count)
+      ∙ sym (all_same (λ m. length m.log) 0 ms (λ i m is. ap (λ (x : Mutating). length x.log) (new_at n ms new i m is)))

@@ -1,5 +1,5 @@
 -- Runs of a script, in which each turn is one step of the heap, or one move of a page.
-use Rattle.std.specs.Prelude.{◌≡◌, ℕ, ◌<◌, ◌≤◌, Bool, true, false, List, [], length, filter_map, Option, Some, None, slice_get}
+use Rattle.std.specs.Prelude.{◌≡◌, ℕ, ◌+◌, ◌<◌, ◌≤◌, Bool, true, false, List, [], length, Some, slice_get}
 use Rattle.std.specs.Prelude.{slice_index_or}
 use Rattle.std.specs.List.{AllByRecursion}
 use Rattle.kn_base.specs.Pages.{FrameView}
@@ -7,21 +7,13 @@ use Rattle.kn_graph.specs.declared.calls.Call.{Call}
 use Rattle.kn_graph.specs.declared.entries.Entry.{Entry}
 use Rattle.kn_graph.specs.Logs.{log_of, IsComplete, IsPartial}
 use Rattle.kn_rule.specs.Allowed.{IsBuilt}
-use Rattle.kn_schedule.specs.Schedules.{AllEnded}
-use Rattle.kn_lines.specs.declared.orders.Actor.TheVariants.{Thread}
-use Rattle.kn_lines.specs.declared.orders.OrderWord.{OrderWord}
-use Rattle.kn_lines.specs.declared.orders.OrderWord.TheVariants.{Run}
+use Rattle.kn_schedule.specs.Schedules.{AllEnded, whole_order}
 use Rattle.kn_script.specs.Scripts.{Scripted, ground_of}
 use Rattle.kn_board.specs.Open.{AreWhole, opened}
 use Rattle.kn_board.specs.World.{World}
+use Rattle.kn_collector.specs.Kept.{Kept, new_kept}
 use Rattle.kn_mutator.specs.Mutating.{Mutating, new_mutating}
-use Rattle.kn_trace.specs.Traces.{Trace, Runs, ended}
-
--- the thread that an order word names, which is asked for a turn; today no order word has more than this number, so what
--- may stand behind it (`until`) and the words for other actors have no meaning here
-abbrev pub named : OrderWord → Option ℕ
-named (Run (Thread n) until) = Some n
-named _ = None
+use Rattle.kn_trace.specs.Traces.{Trace, Runs, ends}
 
 -- the calls of a thread of the script; none past the last thread
 abbrev pub calls_at : List (List Call) → ℕ → List Call
@@ -31,7 +23,7 @@ calls_at threads thread = slice_index_or threads thread []
 abbrev pub AreBuilt : List (List Call) → Type 0
 AreBuilt threads = AllByRecursion (AllByRecursion IsBuilt) threads
 
--- the opened board, for each thread a mutator that has made no turn, and the threads that the order words name
+-- the opened board, for each thread a mutator that has made no turn, a collector that has made none, and the order words
 pub record IsStart (script : Scripted) (t : Trace) : Type 0 where
   pub pages : List FrameView
   pub whole : AreWhole script.sizes pages
@@ -39,7 +31,8 @@ pub record IsStart (script : Scripted) (t : Trace) : Type 0 where
   pub count : length t.mutators ≡ length script.threads
   pub mutators : (thread : ℕ) → thread < length script.threads →
       slice_get t.mutators thread ≡ Some (new_mutating (ground_of script) thread (calls_at script.threads thread))
-  pub left : t.left ≡ record { named = filter_map named script.order; next = 0 }
+  pub collector : t.collector ≡ new_kept script.sizes.threads
+  pub left : t.left ≡ whole_order script.order
 
 -- so many turns of a run of the script lead here, no more than the greatest number of turns
 pub record IsRunTo (script : Scripted) (turns : ℕ) (last : Trace) : Type 0 where
@@ -48,20 +41,21 @@ pub record IsRunTo (script : Scripted) (turns : ℕ) (last : Trace) : Type 0 whe
   pub runs : Runs turns start last
   pub few : turns ≤ script.turns
 
--- every thread has ended
-abbrev pub HaveEnded : List Mutating → Type 0
-HaveEnded mutators = AllEnded (length mutators) (ended mutators)
+-- every thread and the collector have ended
+abbrev pub HaveEnded : List Mutating → Kept → Type 0
+HaveEnded mutators collector = AllEnded (length mutators + 1) (λ i. slice_index_or (ends mutators collector) i false)
 
--- some thread has not ended
-abbrev pub IsGoingOn : List Mutating → Type 0
-IsGoingOn mutators = (thread : ℕ) × (thread < length mutators) × (ended mutators thread ≡ false)
+-- some thread or the collector has not ended
+abbrev pub IsGoingOn : List Mutating → Kept → Type 0
+IsGoingOn mutators collector =
+    (actor : ℕ) × (actor < length mutators + 1) × (slice_index_or (ends mutators collector) actor false ≡ false)
 
--- why a run is over: every thread has ended, or the greatest number of turns was made and some thread has not ended
+-- why a run is over: every actor has ended, or the greatest number of turns was made and some actor has not ended
 abbrev pub IsOverAs : Scripted → Bool → ℕ → Trace → Type 0
-IsOverAs script false turns last = HaveEnded last.mutators
-IsOverAs script true turns last = (turns ≡ script.turns) × IsGoingOn last.mutators
+IsOverAs script false turns last = HaveEnded last.mutators last.collector
+IsOverAs script true turns last = (turns ≡ script.turns) × IsGoingOn last.mutators last.collector
 
--- a run of the script leaves this board, and is over; its turns were spent, or every thread has ended
+-- a run of the script leaves this board, and is over; its turns were spent, or every actor has ended
 pub record IsRunOf (script : Scripted) (is_spent : Bool) (board : World) : Type 0 where
   pub turns : ℕ
   pub last : Trace

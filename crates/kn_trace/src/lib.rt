@@ -1,13 +1,14 @@
-//! The run of a script on a board: turns of its threads, one after another.
+//! The run of a script on a board: turns of its threads and of the collector, one after another.
 //!
-//! A `trace` owns its board and the mutators of all threads (`Trace` in `specs/Traces.antt`), and only
-//! the turn of the thread whose turn it is changes them. Between any two turns each mutator agrees
-//! with what its thread knows on the board, no frame is unswept, and the collector and the finalizer
-//! have made no step (`Holds` in `specs/Between.antt`). A run ends where every thread has ended, or
-//! where the greatest number of turns was made (`IsRunOf` in `specs/Runs.antt`).
+//! A `trace` owns its board, the mutators of all threads and the collector (`Trace` in
+//! `specs/Traces.antt`), and only the turn of the actor whose turn it is changes them. Between any two
+//! turns each mutator and the collector agree with what their callers know on the board, no frame is
+//! unswept, the collector has made no entry, and the finalizer has made no step (`Holds` in
+//! `specs/Between.antt`). A run ends where every actor has ended, or where the greatest number of turns
+//! was made (`IsRunOf` in `specs/Runs.antt`).
 #![tactic(auto)]
 
+mod actors;
 mod runs;
-mod threads;
 
 pub use runs::{Traced, trace};

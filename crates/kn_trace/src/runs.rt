@@ -7,7 +7,7 @@ ghost use Rattle.kn_script.specs.Scripts.{ground_of};
 ghost use Rattle.kn_trace.specs.Between.{Holds, trace_of};
 ghost use Rattle.kn_trace.specs.Runs.{AreBuilt, AreComplete, ArePartial, IsRunOf, IsStart};
 
-use crate::threads::Threads;
+use crate::actors::Actors;
 use kn_board::Board;
 use kn_others::laws::turn_laws;
 use kn_page::{Page, open_pages};
@@ -16,7 +16,7 @@ use kn_script::{Script, state_laws};
 use std::alloc::{AllocError, Global};
 
 /// What a run leaves: the board, the log of each caller, of which the last two are empty, and
-/// whether its turns were spent with some thread not ended.
+/// whether its turns were spent with some actor not ended.
 #[derive(Drop)]
 pub struct Traced {
     pub board: Board<Page>,
@@ -24,29 +24,29 @@ pub struct Traced {
     pub is_spent: bool,
 }
 
-/// The board and the threads of a script, before the first turn.
+/// The board and the actors of a script, before the first turn.
 #[derive(Drop)]
 struct Opened {
     board: Board<Page>,
-    threads: Threads,
+    actors: Actors,
 }
 
 fn open_run(alloc: Global, script: &Script) -> Result<Opened, AllocError>
     requires good { IsGoodScript script.now }
     requires built { AreBuilt script.now.threads }
-    ensures start { IfOk result (λ opened. IsStart script.now (trace_of opened.board opened.threads)) }
-    ensures holds { IfOk result (λ opened. Holds (trace_of opened.board opened.threads)) }
+    ensures start { IfOk result (λ opened. IsStart script.now (trace_of opened.board opened.actors)) }
+    ensures holds { IfOk result (λ opened. Holds (trace_of opened.board opened.actors)) }
 {
     state_laws();
     turn_laws();
     let pages = open_pages(alloc, &script.sizes)?;
     let board = Board::open(alloc, &script.sizes, &script.layouts, pages)?;
-    let threads = Threads::open(alloc, script)?;
-    Ok(Opened { board, threads })
+    let actors = Actors::open(alloc, script)?;
+    Ok(Opened { board, actors })
 }
 
-/// Runs a script on a board, until each thread has ended or the turns are spent. An error is want
-/// of memory.
+/// Runs a script on a board, until each thread and the collector have ended or the turns are spent.
+/// An error is want of memory.
 pub fn trace(alloc: Global, script: &Script) -> Result<Traced, AllocError>
     requires good { IsGoodScript script.now }
     requires built { AreBuilt script.now.threads }
@@ -58,10 +58,10 @@ pub fn trace(alloc: Global, script: &Script) -> Result<Traced, AllocError>
     ensures few { IfOk result (λ traced. sum_by (λ log. length log) traced.logs.items < 2 ^ 32) }
 {
     let opened = open_run(alloc, script)?;
-    let mut threads = opened.threads;
-    let board = threads.take_turns(opened.board, script.turns);
-    let is_spent = threads.is_going_on();
-    let logs = threads.into_logs(alloc)?;
+    let mut actors = opened.actors;
+    let board = actors.take_turns(opened.board, script.turns);
+    let is_spent = actors.is_going_on();
+    let logs = actors.into_logs(alloc)?;
     board.rule_holds();
     Ok(Traced {
         board,

@@ -2,4 +2,4 @@ use Rattle.std.proofs.Common.{◌≡◌}
 use Rattle.kn_schedule.proofs.tests.turns_of.Given as goal
 
 abbrev pub invariant-loop : goal.invariant-loop
-invariant-loop l = l.schedule.count ≡ 3
+invariant-loop l = l.schedule.threads ≡ 2

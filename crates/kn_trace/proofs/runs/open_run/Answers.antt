@@ -18,12 +18,12 @@ returns c =
     let is = c.script.view_is in
     let pages = map page_view c.in_ok-pages.pages.items in
     let w = c.in_ok-board.board in
-    let r = c.in_ok-threads.threads in
-    let new = c.in_ok-threads.ensures.new in
+    let r = c.in_ok-actors.actors in
+    let new = c.in_ok-actors.ensures.new in
     let board = c.in_ok-board.ensures ∙ ap (λ (z : Ground). opened z pages) (over_script c.deref.result.now c.deref.ensures.value is) in
     let whole = subst (λ (z : Sizes). AreWhole z pages) (ap (λ (x : Scripted). x.sizes) is)
     (first_whole c.script.inside.sizes c.in_ok-pages.pages.items c.in_ok-pages.ensures) in
     record {
-      start = starts now good pages w board r new whole c.in_ok-threads.ensures.left;
-      holds = holds_first now good pages w board r new c.turn_laws.ensures.opened;
+      start = starts now good pages w board r new whole c.in_ok-actors.ensures.collector c.in_ok-actors.ensures.left;
+      holds = holds_first now good pages w board r new c.in_ok-actors.ensures.collects c.turn_laws.ensures.opened;
     }

@@ -11,7 +11,7 @@ pub returns : goal.returns
 returns c =
     let now = c.args.script.now in
     let good = c.requires.good in
-    let first = trace_of c.in_ok-opened.opened.board c.in_ok-opened.opened.threads in
+    let first = trace_of c.in_ok-opened.opened.board c.in_ok-opened.opened.actors in
     let last = trace_of c.take_turns-board.result c.take_turns-board.new.self in
     let start = c.in_ok-opened.ensures.start in
     let taken = c.take_turns-board.ensures in
@@ -24,7 +24,7 @@ returns c =
       legal = legal now good first last start taken.stays sound taken.holds;
       logs = subst (λ (logs : List (List Entry)). LogsFit (now.sizes.threads + 2) logs last.board.history) (sym c.in_ok-logs.ensures)
           (fit now good first last start taken.stays sound taken.holds);
-      complete = λ is_over. complete now good first last start taken.stays sound taken.holds (ended_where is_spent last.mutators is is_over);
+      complete = λ is_over. complete now good first last start taken.stays sound taken.holds (ended_where is_spent last.mutators last.collector is is_over);
       partial = partial now good first last start taken.stays sound taken.holds;
       few = subst (λ (logs : List (List Entry)). sum_by (λ (log : List Entry). length log) logs < 2 ^ 32) (sym c.in_ok-logs.ensures)
           (few now good first last start taken.stays sound taken.holds);

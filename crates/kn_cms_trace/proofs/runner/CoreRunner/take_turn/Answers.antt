@@ -1,7 +1,6 @@
 use Rattle.std.proofs.Common.{◌∙◌, ℕ, Bool, List, slice_set, sym, ap, subst}
-use Rattle.kn_cms_turns.specs.Asks.{standing_of}
-use Rattle.kn_cms_turns.specs.Turns.{IsNextActor}
-use Rattle.kn_cms_trace.specs.CoreRuns.{actor_at}
+use Rattle.kn_schedule.specs.Schedules.{IsNext}
+use Rattle.kn_cms_trace.specs.CoreRuns.{actor_at, standing_in}
 use Rattle.kn_cms_trace.specs.Runners.{Runner, RunnerTurns}
 use Rattle.kn_cms_trace.proofs.Turned.{one_turn}
 use Rattle.kn_cms_trace.proofs.runner.CoreRunner.take_turn.Goals as goal
@@ -13,11 +12,11 @@ returns-clause-takes c =
     let actor = c.in-Some.actor in
     let threads = s.core.ground.sizes.threads in
     let who = c.actor_at-who.ensures.is ∙ ap (λ (t : ℕ). actor_at t actor) (sym c.self.invariant.0) in
-    let next = subst (λ (t : ℕ). IsNextActor t (standing_of c.deref.result.now c.deref-2.result.now) s.schedule.left actor c.next_turn.new.self.left)
+    let next = subst (λ (t : ℕ). IsNext t (standing_in c.deref.result.now c.deref-2.result.now) s.schedule.left actor c.next_turn.new.self.left)
     (c.self.invariant.1 ∙ sym c.self.invariant.0) c.in-Some.ensures.next in
-    let next = subst (λ (e : List Bool). IsNextActor threads (standing_of e c.deref-2.result.now) s.schedule.left actor c.next_turn.new.self.left)
+    let next = subst (λ (e : List Bool). IsNext threads (standing_in e c.deref-2.result.now) s.schedule.left actor c.next_turn.new.self.left)
     c.deref.ensures.value next in
-    let next = subst (λ (a : List ℕ). IsNextActor threads (standing_of s.ended.items a) s.schedule.left actor c.next_turn.new.self.left)
+    let next = subst (λ (a : List ℕ). IsNext threads (standing_in s.ended.items a) s.schedule.left actor c.next_turn.new.self.left)
     c.deref-2.ensures.value next in
     let after : Runner = record {
       core = c.turn-turn.new.self;

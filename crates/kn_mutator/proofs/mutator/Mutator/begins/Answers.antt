@@ -27,7 +27,7 @@ returns-in-Some-request_of c =
     c.answer_alone.ensures v ∙ ap (λ (ls : List Layout). view_answer (ground_of c.self.inside.sizes ls) v c.args.call) c.as_slice.ensures.value in
     let none : view_answer z v c.args.call ≡ None = sym is ∙ c.in-None.is in
     let sizes : c.self.inside.allocator.sizes ≡ c.self.inside.sizes =
-    subst (λ (m : Mutating). m.alloc.sizes ≡ m.heap.sizes) (sym c.self.view_is) c.requires.sizes in
+    subst (λ (m : Mutating). m.alloc.sizes ≡ m.heap.sizes) (sym c.self.view_is) c.requires.ready.sizes in
     subst (λ (m : Mutating). Begins m c.args.call c.goes_to.new.self) c.self.view_is
     (begins_request _ c.args.call c.goes_to.new.self none c.in-Some-request_of.ensures.birth
     (requests _ c.args.call c.in-Some-request_of.request c.in-Some-request_of.ensures none sizes c.start.new.self c.start.ensures.started

@@ -1,5 +1,54 @@
 use Rattle.kn_mutator.proofs.Born.{goes_on, is_born, is_full}
+use Rattle.kn_mutator.proofs.Needs.{alloc_agrees, birth_in_range, birth_room, gets_turn, is_birth}
 use Rattle.kn_mutator.proofs.mutator.Mutator.gets_cell.Goals as goal
+
+pub turn-requires-clause-agrees : goal.turn-requires-clause-agrees
+turn-requires-clause-agrees g c =
+    let t = g.T.Steps in
+    let m = c.args.self.now in
+    let a = t.stand c.args.steps.now in
+    let here = t.here c.args.steps.now in
+    alloc_agrees m a here c.requires.agrees _ c.self.view_is
+
+pub turn-requires-clause-under_way : goal.turn-requires-clause-under_way
+turn-requires-clause-under_way g c =
+    let t = g.T.Steps in
+    let m = c.args.self.now in
+    let a = t.stand c.args.steps.now in
+    let here = t.here c.args.steps.now in
+    gets_turn m a here c.requires.agrees _ c.self.view_is c.args.call c.requires.task
+
+pub answers-requires : goal.answers-requires
+answers-requires g c =
+    let t = g.T.Steps in
+    let m = c.args.self.now in
+    let a = t.stand c.args.steps.now in
+    let here = t.here c.args.steps.now in
+    birth_room m a here c.requires.agrees _ c.self.view_is c.args.call c.requires.task
+
+pub bears-requires-clause-room : goal.bears-requires-clause-room
+bears-requires-clause-room g c =
+    let t = g.T.Steps in
+    let m = c.args.self.now in
+    let a = t.stand c.args.steps.now in
+    let here = t.here c.args.steps.now in
+    birth_room m a here c.requires.agrees _ c.self.view_is c.args.call c.requires.task
+
+pub bears-requires-clause-in_range : goal.bears-requires-clause-in_range
+bears-requires-clause-in_range g c =
+    let t = g.T.Steps in
+    let m = c.args.self.now in
+    let a = t.stand c.args.steps.now in
+    let here = t.here c.args.steps.now in
+    birth_in_range m a here c.requires.agrees _ c.self.view_is c.args.call c.requires.task
+
+pub bears-requires-clause-birth : goal.bears-requires-clause-birth
+bears-requires-clause-birth g c =
+    let t = g.T.Steps in
+    let m = c.args.self.now in
+    let a = t.stand c.args.steps.now in
+    let here = t.here c.args.steps.now in
+    is_birth m a here c.requires.agrees _ c.self.view_is c.args.call c.requires.task
 
 pub returns-in-Moved : goal.returns-in-Moved
 returns-in-Moved g c =

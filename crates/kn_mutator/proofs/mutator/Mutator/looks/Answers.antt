@@ -1,16 +1,24 @@
-use Rattle.kn_mutator.proofs.Turning.{looks_in, stays_out}
+use Rattle.std.proofs.Common.{None, refl}
+use Rattle.kn_safepoint.specs.declared.stage.Stage.TheVariants.{Out}
+use Rattle.kn_mutator.proofs.WayIn.{agrees_out, looks_out, may_turn}
 use Rattle.kn_mutator.proofs.mutator.Mutator.looks.Goals as goal
 
-pub returns-then-runs : goal.returns-then-runs
-returns-then-runs g c =
+pub enter_turn-enter-requires-clause-agrees : goal.enter_turn-enter-requires-clause-agrees
+enter_turn-enter-requires-clause-agrees g c = λ κs near.
     let t = g.T.Steps in
-    let h = c.poll-word.ensures in
-    looks_in t.stand t.here t.did t.moved c.args.self.now c.args.steps.now c.poll-word.new.self c.requires.agrees c.requires.task c.poll-word.result
-    h.0 h.1 h.2 c.runs.result c.runs.ensures c.if-runs.true c.goes_to.new.self c.goes_to.ensures
+    let s = c.args.steps.now in
+    agrees_out c.args.self.now (t.stand s) (t.here s) c.requires.agrees c.safepoint-safepoint.result c.requires.task c.safepoint-safepoint.ensures
 
-pub returns-else-runs : goal.returns-else-runs
-returns-else-runs g c =
+pub enter_turn-enter-requires-clause-may : goal.enter_turn-enter-requires-clause-may
+enter_turn-enter-requires-clause-may g c = λ κs near.
     let t = g.T.Steps in
-    let h = c.poll-word.ensures in
-    stays_out t.stand t.here t.did t.moved c.args.self.now c.args.steps.now c.poll-word.new.self c.requires.agrees c.requires.task c.poll-word.result
-    h.0 h.1 h.2 c.runs.result c.runs.ensures c.if-runs.false c.is_wait.result c.is_wait.ensures c.idle_at.result c.idle_at.ensures
+    let s = c.args.steps.now in
+    may_turn (t.stand s) (t.here s) None c.args.self.now.by Out refl c.safepoint-safepoint.result c.safepoint-safepoint.ensures
+
+pub returns : goal.returns
+returns g c =
+    let t = g.T.Steps in
+    looks_out t.stand t.here t.did t.moved c.args.self.now c.args.steps.now c.enter_turn-enter.new.steps c.requires.agrees
+    c.safepoint-safepoint.result c.enter_turn-enter.new.self c.enter_turn-enter.result c.requires.task c.safepoint-safepoint.ensures
+    c.enter_turn-enter.ensures.turned c.goes_to.new.self c.told.result c.stage.result c.task_out.result
+    c.stage.ensures c.task_out.ensures c.goes_to.ensures c.told.ensures

@@ -1,6 +1,61 @@
-use Rattle.std.proofs.Common.{◌∙◌}
+use Rattle.std.proofs.Common.{◌∙◌, arith, ◌≤◌, Some}
 use Rattle.kn_mutator.proofs.CallTurns.{sets}
+use Rattle.kn_mutator.proofs.Calling.{in_range}
+use Rattle.kn_mutator.proofs.Needs.{may_set, room}
+use Rattle.kn_graph.specs.declared.calls.Call.TheVariants.{Set}
 use Rattle.kn_mutator.proofs.mutator.Mutator.sets.Goals as goal
+
+pub local-requires : goal.local-requires
+local-requires g c =
+    let t = g.T.Steps in
+    let m = c.args.self.now in
+    let a = t.stand c.args.steps.now in
+    let here = t.here c.args.steps.now in
+    let l : c.args.r ≤ 15 = (in_range m a here c.requires.agrees (Set c.args.s c.args.i c.args.r) (Some c.requires.task.0) c.requires.task.1).1.1.0 in
+    omega (arith, l)
+
+pub field-requires-clause-local : goal.field-requires-clause-local
+field-requires-clause-local g c =
+    let t = g.T.Steps in
+    let m = c.args.self.now in
+    let a = t.stand c.args.steps.now in
+    let here = t.here c.args.steps.now in
+    let l : c.args.s ≤ 15 = (in_range m a here c.requires.agrees (Set c.args.s c.args.i c.args.r) (Some c.requires.task.0) c.requires.task.1).0 in
+    omega (arith, l)
+
+pub field-requires-clause-address : goal.field-requires-clause-address
+field-requires-clause-address g c =
+    let t = g.T.Steps in
+    let m = c.args.self.now in
+    let a = t.stand c.args.steps.now in
+    let here = t.here c.args.steps.now in
+    let l : c.args.s ≤ 15 = (in_range m a here c.requires.agrees (Set c.args.s c.args.i c.args.r) (Some c.requires.task.0) c.requires.task.1).0 in
+    c.requires.agrees.addresses c.args.s (omega (arith, l))
+
+pub field-requires-clause-field : goal.field-requires-clause-field
+field-requires-clause-field g c =
+    let t = g.T.Steps in
+    let m = c.args.self.now in
+    let a = t.stand c.args.steps.now in
+    let here = t.here c.args.steps.now in
+    (in_range m a here c.requires.agrees (Set c.args.s c.args.i c.args.r) (Some c.requires.task.0) c.requires.task.1).1.0
+
+pub store-requires : goal.store-requires
+store-requires g c =
+    let t = g.T.Steps in
+    let m = c.args.self.now in
+    let a = t.stand c.args.steps.now in
+    let here = t.here c.args.steps.now in
+    may_set m a here c.requires.agrees c.args.s c.args.i c.requires.task.0 c.field.result c.field.ensures c.args.r c.from-value.result c.requires.task.1
+    (c.from-value.ensures ∙ c.local.ensures)
+
+pub answers-requires : goal.answers-requires
+answers-requires g c =
+    let t = g.T.Steps in
+    let m = c.args.self.now in
+    let a = t.stand c.args.steps.now in
+    let here = t.here c.args.steps.now in
+    room m a here c.requires.agrees (Set c.args.s c.args.i c.args.r) (Some c.requires.task.0) c.requires.task.1
 
 pub returns : goal.returns
 returns g c =

@@ -1,58 +1,34 @@
-use Rattle.std.proofs.Common.{◌≡◌, ◌∙◌, ℕ, ◌+◌, ◌<◌, ◌≤◌, Bool, true, false, List, get_or, length, take, drop}
-use Rattle.std.proofs.Common.{sym, ap, subst, arith}
-use Rattle.std.specs.Prelude.{All}
-use Rattle.std.proofs.lemmas.List.{drop_all, length-drop, take_all}
-use Rattle.std.proofs.lemmas.List.Elements.{All-get_or, All-nil}
-use Rattle.kn_schedule.specs.Schedules.{Order, ComesTo, IsNext}
-use Rattle.kn_schedule.proofs.Next.{from_word, from_round, slice_at, slice_rest}
+use Rattle.std.proofs.Common.{◌≡◌, ◌∙◌, ◌+◌, drop, refl, sym, ap, subst, arith}
+use Rattle.std.proofs.lemmas.List.{drop_all}
+use Rattle.kn_schedule.specs.Asks.{Standing, standing_of}
+use Rattle.kn_schedule.specs.Schedules.{AreSpent, Left, Order}
+use Rattle.kn_schedule.proofs.Spent.{none_left, of_round}
 use Rattle.kn_schedule.proofs.schedule.Schedule.next_turn.Goals as goal
-use Rattle.kn_schedule.proofs.schedule.Schedule.next_turn.Goals.{then-self-len+else-at-len, else-self-len}
-
-pub returns-then-at-len-clause-next : goal.returns-then-at-len-clause-next
-returns-then-at-len-clause-next c =
-    let ended : ℕ → Bool = λ t. get_or c.args.ended.now t false in
-    let items : List ℕ = c.self.inside.named.items in
-    let passed = c.self.inside.passed in
-    let n = c.ended_before.result in
-    let thread = c.index.result.now in
-    let piece = slice_rest c.deref.result.now items passed c.deref.ensures.value in
-    let some : passed + n < length items = omega (arith, c.if-at-len.true, c.len-then-self-len.ensures) in
-    let shorter : n < length (drop passed items) = omega (arith, length-drop passed items) in
-    let same = slice_at items _ passed n thread piece some in
-    let first = c.ended_before.ensures.first (subst (λ (x : List ℕ). n < length x) (sym piece) shorter) in
-    let runs : ended thread ≡ false = subst (λ t. ended t ≡ false) (same ∙ sym c.index.ensures) first in
-    let before = subst (λ (x : List ℕ). All (λ t. ended t ≡ true) (take n x)) piece c.ended_before.ensures.before in
-    let below : thread < c.self.inside.threads = subst (λ t. t < c.self.inside.threads) (sym c.index.ensures)
-    (All-get_or (λ t. t < c.self.inside.threads) items (passed + n) thread some c.self.invariant.2) in
-    subst (λ (o : Order). IsNext o.count ended o.left thread (record { named = drop (passed + n + 1) items; next = c.self.inside.next }))
-    c.self.view_is (from_word c.self.inside.threads ended items passed n c.self.inside.next thread some c.index.ensures before below runs)
+use Rattle.kn_schedule.proofs.schedule.Schedule.next_turn.Goals.{then-not-self+in_default, else-not-self}
 
 pub returns-clause-next : goal.returns-clause-next
 returns-clause-next c =
-    let ended : ℕ → Bool = λ t. get_or c.args.ended.now t false in
-    let items : List ℕ = c.self.inside.named.items in
-    let passed = c.self.inside.passed in
-    let thread = c.in_ok-thread.thread in
-    let later = c.if-self-len.self-inside in
-    let size : length c.args.ended.now ≡ c.self.inside.threads = c.requires ∙ sym (ap (λ (o : Order). o.count) c.self.view_is) in
-    let below = subst (λ k. thread < k) size c.in_ok-thread.ensures.is_thread in
-    let comes = subst (λ k. ComesTo k ended later.next thread) size c.in_ok-thread.ensures.comes in
-    subst (λ (o : Order). IsNext o.count ended o.left thread (record { named = drop later.passed later.named.items; next = thread + 1 }))
-    c.self.view_is (elim c.if-self-len.branch [
-      | then-self-len+else-at-len w ↦
-          let n = w.ended_before.result in
-          let piece = slice_rest w.deref.result.now items passed w.deref.ensures.value in
-          let past : length items ≤ passed + n = omega (arith, w.if-at-len.false, w.len-then-self-len.ensures) in
-          let whole = take_all n (drop passed items) (omega (arith, length-drop passed items)) in
-          let before = subst (λ (x : List ℕ). All (λ t. ended t ≡ true) (take n x)) piece w.ended_before.ensures.before in
-          let words = subst (λ (x : List ℕ). All (λ t. ended t ≡ true) x) whole before in
-          let none = ap (λ x. drop x.passed x.named.items) w.self-inside-is ∙ drop_all (passed + n) items past in
-          from_round c.self.inside.threads ended (record { named = drop passed items; next = c.self.inside.next }) thread later.next _ words
-          (ap (λ x. x.next) w.self-inside-is) below c.in_ok-thread.ensures.runs comes none
-      | else-self-len w ↦
-          let empty = drop_all passed items (omega (arith, w.if-self-len.false, c.len.ensures)) in
-          let words = subst (λ (x : List ℕ). All (λ t. ended t ≡ true) x) (sym empty) (All-nil (λ t. ended t ≡ true)) in
-          let none = ap (λ x. drop x.passed x.named.items) w.self-inside-is ∙ empty in
-          from_round c.self.inside.threads ended (record { named = drop passed items; next = c.self.inside.next }) thread later.next _ words
-          (ap (λ x. x.next) w.self-inside-is) below c.in_ok-thread.ensures.runs comes none
-    ])
+    let old : Order = c.args.self.now in
+    let between : Order = c.if-not-self.self in
+    let s = c.self.inside in
+    let t = c.self-2.inside in
+    let actor = c.in_ok-actor.actor in
+    let standing : Standing = standing_of c.args.ended.now c.args.answered.now c.args.code in
+    let after : Left = record { asking = t.asking; words = drop t.begun t.words.items; next = actor + 1 } in
+    let spent : AreSpent old.threads standing old.left between.left = elim c.if-not-self.branch [
+      | then-not-self+in_default w ↦
+          subst (λ (o : Order). AreSpent old.threads standing old.left o.left) (sym w.self-is) w.in_default.ensures.asked
+      | else-not-self w ↦
+          let none = c.self.invariant.5 w.if-not-self.false in
+          let left : Left = record { asking = s.asking; words = drop s.begun s.words.items; next = s.next } in
+          subst (λ (o : Order). AreSpent old.threads standing old.left o.left) (sym w.self-is)
+          (subst (λ (o : Order). AreSpent old.threads standing o.left o.left) c.self.view_is
+          (none_left old.threads standing left none.0 (drop_all s.begun s.words.items (omega (arith, none.1, s.words.ok.0)))))
+    ] in
+    let same : between.left.next ≡ old.left.next = elim c.if-not-self.branch [
+      | then-not-self+in_default w ↦ ap (λ (o : Order). o.left.next) w.self-is ∙ w.in_default.ensures.next
+      | else-not-self w ↦ ap (λ (o : Order). o.left.next) w.self-is
+    ] in
+    of_round old between standing after actor t.next _ spent same (ap (λ (o : Order). o.left.asking) c.self-2.view_is)
+    (ap (λ (o : Order). o.left.words) c.self-2.view_is) refl (ap (λ (o : Order). o.left.next) c.self-2.view_is) c.requires.ended
+    c.in_ok-actor.ensures.is_actor c.in_ok-actor.ensures.runs c.in_ok-actor.ensures.comes

@@ -1,9 +1,0 @@
-use Rattle.std.proofs.Common.{arith}
-use Rattle.kn_cms_turns.specs.Asks.{standing_of}
-use Rattle.kn_cms_turns.proofs.Passed.{passed_from}
-use Rattle.kn_cms_turns.proofs.asking.Asking.first_ask.Goals as goal
-
-pub returns : goal.returns
-returns c = passed_from (standing_of c.args.ended.now c.args.answered.now) c.args.self.now c.args.made c.requires.some
-    (λ ask behind near within. c.loop-ask.invariant ask behind
-    (omega (arith, c.loop-ask-test.false, c.min-end.ensures, c.saturating_add.ensures, c.from.ensures, near, within)))
