@@ -1,9 +1,10 @@
 -- A step that its caller's view allows finds what it asks of what is stored.
-use Rattle.std.proofs.Common.{◌≡◌, ◌≢◌, ℕ, ◌^◌, ◌<◌, ◌≤◌, Bool, List, map, Option, Some, None, refl, sym, ap, ◌∙◌, subst}
+use Rattle.std.proofs.Common.{◌≡◌, ◌≢◌, inl, inr, ℕ, ◌^◌, ◌<◌, ◌≤◌, Bool, List, [], map, Option, Some, None, refl, sym}
+use Rattle.std.proofs.Common.{ap, ◌∙◌, subst}
 use Rattle.std.proofs.Common.{arith}
 use Rattle.std.proofs.Common.{slice_get, slice_index}
 use Rattle.kn_base.specs.declared.places.Place.{Place}
-use Rattle.kn_base.specs.declared.places.Place.TheVariants.{Phase, Local, Frame}
+use Rattle.kn_base.specs.declared.places.Place.TheVariants.{Phase, RootSet, Local, Side, Frame}
 use Rattle.kn_base.specs.declared.kinds.FrameKind.TheVariants as frames
 use Rattle.kn_base.specs.Sizes.{frame_count}
 use Rattle.kn_base.specs.Pages.{FrameView}
@@ -16,7 +17,11 @@ use Rattle.kn_graph.specs.Graph.{Graph}
 use Rattle.kn_rule.specs.declared.steps.Kind.{Kind}
 use Rattle.kn_rule.specs.declared.steps.Kind.TheVariants.{K1, K2, K3, K4, K5, K6}
 use Rattle.kn_rule.specs.declared.steps.Kind.TheVariants.{K7, K8, K9, K10, K11, K12, K13, K14, K15, K16}
+use Rattle.kn_rule.specs.declared.steps.Kind.TheVariants.{K17, K18, K19, K20, K21, K22, K23, K24}
 use Rattle.kn_rule.specs.declared.steps.Action.{Action}
+use Rattle.kn_rule.specs.declared.steps.Action.TheVariants.{Stores}
+use Rattle.kn_marking.specs.declared.work.Work.{Work}
+use Rattle.kn_rule.specs.Moves.{stepped}
 use Rattle.kn_rule.specs.declared.positions.Position.{Position}
 use Rattle.kn_rule.specs.declared.positions.Position.TheVariants.{Out, Entering, Between, Calling, Waiting}
 use Rattle.kn_rule.specs.declared.parts.Taken.{Taken}
@@ -28,18 +33,23 @@ use Rattle.kn_rule.specs.Steps.{does, callers, frame_in}
 use Rattle.kn_rule.specs.Allowed.{MayBegin as MayBeginCall}
 use Rattle.kn_rule.specs.Allowed.{MayBe, MayEnterFor, MayPollAt, MayWriteAt, MayLoadAt, MayReadGlobalAt, MayPoll, MayStoreState, MayWrite, MayLoadBody}
 use Rattle.kn_rule.specs.Allowed.{MayReadGlobal, MayBirth, MayLook, MayClaim}
-use Rattle.kn_rule.specs.Allowed.{MayGiveBack, MayClear, MayClearFor}
+use Rattle.kn_rule.specs.Allowed.{MayGiveBack, MayClear, MayClearFor, MayStorePhase, MayMake}
+use Rattle.kn_rule.specs.MarkSteps.{IsMarker, MayMoveSet, MayLoadRoot, MayMoveMark, MayLoadCell}
 use Rattle.kn_rule.specs.HistoryClauses.{IsRightCall}
 use Rattle.kn_rule.specs.Rule.{Rule}
 use Rattle.kn_rule.proofs.FrameSpans.{in_heap}
 use Rattle.kn_keep_heap.proofs.Values.{below_sixteen}
-use Rattle.kn_keep_mark.proofs.Withins.{steps_lie_within}
+use Rattle.kn_keep_marking.proofs.Keeps.{keeps}
+use Rattle.kn_keep_marking.proofs.Withins.{steps_lie_within}
 use Rattle.kn_keep_heap.proofs.ReadLaws.{ranges}
 use Rattle.kn_view.specs.Parts.{Part, view_with, MayBegin, IsReadable, IsBirthLocal}
+use Rattle.kn_view.specs.Shares.{MayOwe, IsChildNear, IsRootRead, IsCellRead}
 use Rattle.kn_holds.specs.Holds.{Hold}
 use Rattle.kn_board.specs.Parts.{own_of}
 use Rattle.kn_board.specs.Stored.{HoldsFit, hold_at}
 use Rattle.kn_board.specs.Asks.{Asks, AsksPoll, AsksState, AsksWrite, AsksGlobal, AsksBirth, AsksFrame, AsksClaim, AsksHome, AsksClear, AsksNext}
+use Rattle.kn_board.specs.Asks.{AsksPhase, AsksSet, AsksMark}
+use Rattle.kn_board.proofs.ShareFits.{owes_little, child_near, root_read, field_read}
 use Rattle.kn_board.proofs.ClaimFits.{usable_free}
 use Rattle.kn_board.proofs.Holdings.{owns_stored, owner}
 use Rattle.kn_keep_heap.proofs.SmallWords.{phase_small}
@@ -140,6 +150,64 @@ module _ (z : Ground) (good : IsGoodGround z) (s : State) (rule : Rule z s) (by 
     look : MayLook z by v here p a → AsksFrame z by part p a n
     look m = record { frame = m.frame; place = m.place; near = m.search.near; call = right_call m.search.thread }
 
+    -- a word of a phase that the rule allows is small
+    phase : MayStorePhase z by v here p a → AsksPhase z by part p a n
+    phase m =
+        let may : MayMake z by (s.caller by) here (does K14 p a) = subst (λ v. MayBe z by v here K14 p a) (sym is) m in
+        let after = keeps z good s by here (record { word = n; page = some_page }) rule (does K14 p a) may (found, tt) in
+        record { value = m.value; act = m.act; small = small m.value m.place m.act after }
+      where
+        some_page : FrameView
+        some_page = record { frame = record { start = 0; len = 0 }; class = 0; free = []; cursor = 0 }
+
+        small : (w : ℕ) → p ≡ Phase → a ≡ Stores w → Rule z (stepped z s by (does K14 p a) (record { word = n; page = some_page })) → w < 2 ^ 35
+        small w at act r =
+            let r' : Rule z (stepped z s by (does K14 Phase (Stores w)) (record { word = n; page = some_page })) =
+            subst (λ b. Rule z (stepped z s by (does K14 Phase b) (record { word = n; page = some_page }))) act
+            (subst (λ q. Rule z (stepped z s by (does K14 q a) (record { word = n; page = some_page }))) at r) in
+            phase_small w r'.1.stands.timed.packs
+
+    marks : IsMarker z by v → IsMarker z by (s.caller by)
+    marks m = subst (λ v. IsMarker z by v) (sym is) m
+
+    work_is : (s.caller by).work ≡ part.work
+    work_is = ap (λ (v : View). v.work) is
+
+    owes : IsMarker z by v → MayOwe part.work
+    owes m = subst (λ w. MayOwe w) work_is (owes_little z good s rule.0 rule.1 by (marks m))
+
+    set_of : (j : ℕ) → IsMarker z by v → p ≡ RootSet j → AsksSet z by part p a n
+    set_of j m at = record { set = j; place = at; owes = owes m }
+
+    set_asked : MayMoveSet z by v p a → AsksSet z by part p a n
+    set_asked (inl m) = set_of m.set m.marker m.place
+    set_asked (inr (inl m)) = set_of m.set m.marker m.place
+    set_asked (inr (inr m)) = set_of m.set m.marker m.place
+
+    root : MayLoadRoot z by v p a → IsRootRead z.sizes part.work.doing n
+    root m =
+        subst (λ (w : Work). IsRootRead z.sizes w.doing n) work_is (root_read z good s rule.0 rule.1 by (marks m.marker) m.set m.word n
+        (ap (λ (w : Work). w.doing) work_is ∙ m.claims) m.near (sym (ap s.word m.place) ∙ found))
+
+    mark_of : (x : ℕ) → IsMarker z by v → p ≡ Side x → AsksMark z by part p a n
+    mark_of x m at = record {
+      object = x;
+      place = at;
+      owes = owes m;
+      near = subst (λ (w : Work). IsChildNear w.doing w.child) work_is (child_near z good s rule.0 rule.1 by (marks m));
+    }
+
+    mark_asked : MayMoveMark z by v p a → AsksMark z by part p a n
+    mark_asked (inl m) = mark_of m.child m.marker m.place
+    mark_asked (inr (inl m)) = mark_of m.object m.marker m.place
+    mark_asked (inr (inr m)) = mark_of m.child m.marker m.place
+
+    cell : MayLoadCell z by v p a → IsCellRead part.work.doing n
+    cell (inl m) = subst (λ d. IsCellRead d n) (sym m.scans) tt
+    cell (inr m) =
+        subst (λ (w : Work). IsCellRead w.doing n) work_is (field_read z good s rule.0 rule.1 by (marks m.marker) m.object m.header m.field n
+        (ap (λ (w : Work). w.doing) work_is ∙ m.scans) m.of_ref (sym (ap s.word m.place) ∙ found))
+
     module _ (fits : HoldsFit z.sizes holds) (slot : ℕ → Option FrameView)
         (pages_are : (j : ℕ) → j < frame_count z.sizes → (frame_of (s.word (Frame j))).kind ≢ frames.Owned → slot j ≡ s.page j)
         (owned_are : (c : ℕ) → c < callers z.sizes → (s.caller c).owned ≡ map (own_of c) holds) where
@@ -214,7 +282,15 @@ module _ (z : Ground) (good : IsGoodGround z) (s : State) (rule : Rule z s) (by 
         asks_by K11 m = home m
         asks_by K12 m = clear m
         asks_by K13 m = tt
-        asks_by K14 m = record { value = m.value; act = m.act }
+        asks_by K14 m = phase m
         asks_by K15 m = record { mutator = m.mutator; place = m.place; near = m.near }
         asks_by K16 m = tt
+        asks_by K17 m = set_asked m
+        asks_by K18 m = root m
+        asks_by K19 m = tt
+        asks_by K20 m = mark_asked m
+        asks_by K21 m = tt
+        asks_by K22 m = record { object = m.object; place = m.place }
+        asks_by K23 m = cell m
+        asks_by K24 m = owes m.marker
         asks_by _ m = absurd m

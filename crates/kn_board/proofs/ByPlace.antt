@@ -1,15 +1,16 @@
 -- Outcomes by the parts of a place and of an action.
 use Rattle.std.proofs.Common.{◌≡◌, ℕ, Option, sym, ap, ◌∙◌, subst}
 use Rattle.kn_base.specs.declared.places.Place.{Place}
-use Rattle.kn_base.specs.declared.places.Place.TheVariants.{State, Local, Side}
+use Rattle.kn_base.specs.declared.places.Place.TheVariants.{RootSet, State, Local, Side}
 use Rattle.kn_graph.specs.declared.entries.Entry.{Entry}
 use Rattle.kn_graph.specs.Ground.{Ground}
+use Rattle.kn_rule.specs.declared.steps.Kind.TheVariants.{K17, K20, K22}
 use Rattle.kn_rule.specs.declared.steps.Action.{Action}
 use Rattle.kn_rule.specs.declared.steps.Action.TheVariants.{Stores}
-use Rattle.kn_rule.specs.Steps.{Found, address_in, local_in, word_stored, state_in}
-use Rattle.kn_rule.specs.Outcomes.{went, write_at, born_at, phase_stored, state_loaded}
+use Rattle.kn_rule.specs.Steps.{Found, address_in, local_in, word_stored, set_in, state_in}
+use Rattle.kn_rule.specs.Outcomes.{went, write_at, born_at, phase_stored, state_loaded, worked}
 use Rattle.kn_view.specs.Parts.{Part, Makes}
-use Rattle.kn_board.specs.Asks.{AsksState, AsksWrite, AsksBirth, AsksPhase, AsksLoadState}
+use Rattle.kn_board.specs.Asks.{AsksState, AsksWrite, AsksBirth, AsksPhase, AsksLoadState, AsksSet, AsksMark, AsksGray}
 
 module _ (z : Ground) (by : ℕ) (old new : Part) (said : Option Entry) (p : Place) (a : Action) (f : Found) where
   pub went_there : AsksState z by old p a f.word → (w : ℕ) → w ≡ word_stored a →
@@ -45,3 +46,21 @@ module _ (z : Ground) (by : ℕ) (old new : Part) (said : Option Entry) (p : Pla
   state_there asks i e h =
       let place : State i ≡ p = ap State (e ∙ ap state_in asks.place) ∙ sym asks.place in
       subst (λ q. Makes z old new said (λ v. state_loaded z by v q a f)) place h
+
+  pub set_there : AsksSet z by old p a f.word → (j : ℕ) → j ≡ set_in p → Makes z old new said (λ v. worked z by v (RootSet j) a f K17) →
+      Makes z old new said (λ v. worked z by v p a f K17)
+  set_there asks j e h =
+      let place : RootSet j ≡ p = ap RootSet (e ∙ ap set_in asks.place) ∙ sym asks.place in
+      subst (λ q. Makes z old new said (λ v. worked z by v q a f K17)) place h
+
+  pub mark_there : AsksMark z by old p a f.word → (x : ℕ) → x ≡ address_in p → Makes z old new said (λ v. worked z by v (Side x) a f K20) →
+      Makes z old new said (λ v. worked z by v p a f K20)
+  mark_there asks x e h =
+      let place : Side x ≡ p = ap Side (e ∙ ap address_in asks.place) ∙ sym asks.place in
+      subst (λ q. Makes z old new said (λ v. worked z by v q a f K20)) place h
+
+  pub gray_there : AsksGray z by old p a f.word → (x : ℕ) → x ≡ address_in p → Makes z old new said (λ v. worked z by v (Side x) a f K22) →
+      Makes z old new said (λ v. worked z by v p a f K22)
+  gray_there asks x e h =
+      let place : Side x ≡ p = ap Side (e ∙ ap address_in asks.place) ∙ sym asks.place in
+      subst (λ q. Makes z old new said (λ v. worked z by v q a f K22)) place h

@@ -1,17 +1,21 @@
 -- What each outcome leaves: a place for each frame where there was one, the log, and that it says nothing or answers one call of
--- its caller.
+-- its caller, or is one pause.
 use Rattle.std.proofs.Common.{◌≡◌, ℕ, ◌==◌, Bool, true, false, cond, replicate, length, Option, Some, None, refl, ◌∙◌, length-set}
 use Rattle.std.proofs.lemmas.List.{length-replicate}
 use Rattle.kn_base.specs.declared.places.Place.{Place}
+use Rattle.kn_base.specs.declared.kinds.Code.{Code}
+use Rattle.kn_base.specs.declared.kinds.Code.TheVariants as codes
 use Rattle.kn_base.specs.Sizes.{frame_count}
 use Rattle.kn_layout.specs.declared.layouts.FieldKind.{FieldKind}
 use Rattle.kn_graph.specs.declared.calls.Call.{Call}
 use Rattle.kn_graph.specs.declared.calls.Call.TheVariants.{Get, Read, GlobalGet}
 use Rattle.kn_graph.specs.declared.calls.Reply.{Reply}
+use Rattle.kn_graph.specs.declared.entries.Event.{Event}
 use Rattle.kn_graph.specs.Ground.{Ground}
 use Rattle.kn_rule.specs.declared.steps.Kind.{Kind}
 use Rattle.kn_rule.specs.declared.steps.Kind.TheVariants.{K1, K2, K3, K4, K5, K6}
 use Rattle.kn_rule.specs.declared.steps.Kind.TheVariants.{K7, K8, K9, K10, K11, K12, K13, K14, K15, K16}
+use Rattle.kn_rule.specs.declared.steps.Kind.TheVariants.{K17, K18, K19, K20, K21, K22, K23, K24}
 use Rattle.kn_rule.specs.declared.steps.Action.{Action}
 use Rattle.kn_rule.specs.declared.steps.Action.TheVariants.{Stores}
 use Rattle.kn_rule.specs.declared.positions.Position.{Position}
@@ -22,8 +26,8 @@ use Rattle.kn_rule.specs.Steps.{Found, Outcome, frame_in, state_in, quietly}
 use Rattle.kn_rule.specs.Requests.{field_of, birth_of}
 use Rattle.kn_rule.specs.Outcomes.{begin_with, poll_run, poll_at, write_at, header_read, header_for_call, field_read, load_body, store_at}
 use Rattle.kn_rule.specs.Outcomes.{global_read, birth_said, born_at, full_if, looked_at, claimed_if, home_if, home_at, clear_at, outcome}
-use Rattle.kn_rule.specs.Outcomes.{epoch_told, waits_on, enters_for, waits_at, wanted_at, phase_stored, state_loaded, count_at}
-use Rattle.kn_board.specs.Room.{IsAtMostACall}
+use Rattle.kn_rule.specs.Outcomes.{epoch_told, waits_on, enters_for, waits_at, wanted_at, paused_at, phase_stored, state_loaded, count_at}
+use Rattle.kn_board.specs.Room.{IsCall, IsPause, IsAtMostOne, IsOfKind}
 
 module _ (z : Ground) (c : ℕ) (v : View) (p : Place) (a : Action) (f : Found) where
   abbrev Wide : View → Type 0
@@ -35,8 +39,11 @@ module _ (z : Ground) (c : ℕ) (v : View) (p : Place) (a : Action) (f : Found) 
   HasPlaces = (length v.seen ≡ frame_count z.sizes) × (length v.refused ≡ frame_count z.sizes)
       × (length v.collecting.counted ≡ z.sizes.threads) × (length v.collecting.ended ≡ z.sizes.threads)
 
-  abbrev pub Leaves : Outcome → Type 0
-  Leaves o = (HasPlaces → Wide o.view) × IsAtMostACall c o.says
+  abbrev pub LeavesOf : (Event → Type 0) → Outcome → Type 0
+  LeavesOf IsSort o = (HasPlaces → Wide o.view) × IsAtMostOne IsSort c o.says
+
+  abbrev Leaves : Outcome → Type 0
+  Leaves = LeavesOf IsCall
 
   same : HasPlaces → Wide v
   same wide = (wide.0, wide.1, wide.2, wide.3, refl)
@@ -149,8 +156,12 @@ module _ (z : Ground) (c : ℕ) (v : View) (p : Place) (a : Action) (f : Found) 
   counted_long true wide = length-replicate z.sizes.threads false
   counted_long false wide = wide.2
 
-  phase_leaves : Leaves (phase_stored z c v p a f)
-  phase_leaves = (λ wide. (wide.0, wide.1, counted_long _ wide, wide.3, refl), tt)
+  pause_said : (code : Code) (e : ℕ) → IsAtMostOne IsPause c (paused_at z c v p a f code e)
+  pause_said codes.Weak e = (refl, tt)
+  pause_said _ e = tt
+
+  phase_leaves : LeavesOf IsPause (phase_stored z c v p a f)
+  phase_leaves = (λ wide. (wide.0, wide.1, counted_long _ wide, wide.3, refl), pause_said _ _)
 
   load_state_leaves : Leaves (state_loaded z c v p a f)
   load_state_leaves = (
@@ -168,7 +179,7 @@ module _ (z : Ground) (c : ℕ) (v : View) (p : Place) (a : Action) (f : Found) 
   count_leaves (Stores n) = (same, tt)
   count_leaves _ = (same, tt)
 
-  pub outcome_leaves : (k : Kind) → Leaves (outcome z c v p a f k)
+  pub outcome_leaves : (k : Kind) → LeavesOf (IsOfKind k) (outcome z c v p a f k)
   outcome_leaves K1 = poll_leaves v.position _ _
   outcome_leaves K2 = (same, tt)
   outcome_leaves K3 = write_leaves v.position
@@ -185,4 +196,12 @@ module _ (z : Ground) (c : ℕ) (v : View) (p : Place) (a : Action) (f : Found) 
   outcome_leaves K14 = phase_leaves
   outcome_leaves K15 = load_state_leaves
   outcome_leaves K16 = count_leaves a
+  outcome_leaves K17 = (same, tt)
+  outcome_leaves K18 = (same, tt)
+  outcome_leaves K19 = (same, tt)
+  outcome_leaves K20 = (same, tt)
+  outcome_leaves K21 = (same, tt)
+  outcome_leaves K22 = (same, tt)
+  outcome_leaves K23 = (same, tt)
+  outcome_leaves K24 = (same, tt)
   outcome_leaves _ = (same, tt)

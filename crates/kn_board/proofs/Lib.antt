@@ -17,6 +17,7 @@ mod Cutting
 mod ViewsAt
 pub mod Leavings
 mod SmallWords
+mod ShareFits
 mod AsksOf
 mod Room
 mod Stepping

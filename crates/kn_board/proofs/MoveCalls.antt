@@ -89,7 +89,7 @@ module _ {S : Type 0} (page_of : S → FrameView) (z : Ground) (words : List ℕ
           wide = inv.1.wide;
           frames = inv.1.frames;
           pages = subst (PagesFit z.sizes) (sym set_is) pages_moved;
-          calls = inv.1.calls;
+          made = inv.1.made;
           history_room = inv.1.history_room;
         },
       )

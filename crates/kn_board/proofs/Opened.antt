@@ -1,5 +1,6 @@
 -- What is stored at the start stands for a board at its start.
-use Rattle.std.proofs.Common.{◌≡◌, ℕ, zero, suc, ◌+◌, ◌<◌, ◌≤◌, List, [], ◌∷◌, length, map, replicate, option_map, Option, Some}
+use Rattle.std.proofs.Common.{◌≡◌, ℕ, zero, suc, ◌+◌, ◌*◌, ◌<◌, ◌≤◌, List, [], ◌∷◌, length, map, replicate}
+use Rattle.std.proofs.Common.{option_map, Option, Some}
 use Rattle.std.proofs.Common.{None, false, refl, sym, ap, ◌∙◌, subst, arith}
 use Rattle.std.proofs.Common.{slice_get, slice_index_or}
 use Rattle.std.proofs.lemmas.List.{length-replicate}
@@ -81,7 +82,7 @@ module _ (z : Ground) (good : IsGoodGround z) (holds : List Hold) (none : AreUno
       pub made_is : world_of z words (map (option_map page_of) slots) known holds history ≡ opened z (map page_of pages)
       made_is = λ t. world z (ew t) (slots_are t) (((λ u. views_from z 0 (ek u) holds (eh u)) ∙ new_from 0 (callers z.sizes)) t) (eh t)
 
-      pub made_sound : (room : ℕ) → MOST_CALLS ≤ room →
+      pub made_sound : (room : ℕ) → 2 * MOST_CALLS ≤ room →
           Sound (world_of z words (map (option_map page_of) slots) known holds history)
           × Kept z (map (option_map page_of) slots) known holds history room
       made_sound room enough = (
@@ -97,7 +98,7 @@ module _ (z : Ground) (good : IsGoodGround z) (holds : List Hold) (none : AreUno
               );
           frames = fits;
           pages = subst (PagesFit z.sizes) (sym slots_are) pages_fit;
-          calls = subst (Rattle.kn_board.specs.Room.AreCallsOf z.sizes.threads) (sym eh) tt;
+          made = subst (Rattle.kn_board.specs.Room.AreMade z.sizes.threads) (sym eh) tt;
           history_room = enough;
         },
       )

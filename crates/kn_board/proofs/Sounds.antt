@@ -19,8 +19,8 @@ use Rattle.kn_rule.specs.Allowed.{MayMake}
 use Rattle.kn_rule.specs.Moves.{stepped, Finds, Takes, page_by, view_after}
 use Rattle.kn_rule.specs.Rule.{Rule, Shown, fresh}
 use Rattle.kn_rule.proofs.Indexes.{places_lie, words_are_set}
-use Rattle.kn_keep_mark.proofs.Keeps.{keeps}
-use Rattle.kn_keep_mark.proofs.Withins.{steps_lie_within}
+use Rattle.kn_keep_marking.proofs.Keeps.{keeps}
+use Rattle.kn_keep_marking.proofs.Withins.{steps_lie_within}
 use Rattle.kn_board.specs.World.{World, word_at, slot_at, view_at, IsSlotOf, IsPageFound, StandsFor, Sound, world_after, lies_at}
 
 set_at : {A : Type 0} (l : List A) (i c : ℕ) (x d : A) → i < length l → Tells i c →

@@ -1,13 +1,15 @@
 -- What is left to show of each kind of step.
-use Rattle.std.proofs.Common.{◌≡◌, ℕ, ◌+◌, ◌*◌, ◌<◌, Bool, List, Option, Some, inl, inr, refl, sym, ap, ◌∙◌, subst}
+use Rattle.std.proofs.Common.{◌≡◌, ℕ, ◌+◌, ◌*◌, ◌<◌, Bool, true, false, cond, eqb, List, Option, Some, inl, inr, refl, sym, ap}
+use Rattle.std.proofs.Common.{◌∙◌, subst}
 use Rattle.std.proofs.Common.{slice_get}
 use Rattle.kn_base.specs.declared.places.Place.{Place}
-use Rattle.kn_base.specs.declared.places.Place.TheVariants.{Phase, Want, Pending, State as StateOf, Local, Global, Frame, Side, Body}
+use Rattle.kn_base.specs.declared.places.Place.TheVariants.{Phase, Want, Pending, RootSet, State as StateOf, Local, Global, Node, Frame, Side, Body}
 use Rattle.kn_base.proofs.Updates.{upd_same}
 use Rattle.kn_graph.specs.Ground.{Ground}
 use Rattle.kn_rule.specs.declared.steps.Kind.{Kind}
 use Rattle.kn_rule.specs.declared.steps.Kind.TheVariants.{K1, K2, K3, K4, K5, K6}
 use Rattle.kn_rule.specs.declared.steps.Kind.TheVariants.{K7, K8, K9, K13, K14, K15, K16}
+use Rattle.kn_rule.specs.declared.steps.Kind.TheVariants.{K17, K18, K19, K20, K21, K22, K23, K24}
 use Rattle.kn_rule.specs.declared.steps.Action.{Action}
 use Rattle.kn_rule.specs.declared.steps.Action.TheVariants.{Loads, LoadsFor, Stores, Raises}
 use Rattle.kn_rule.specs.Decoding.{frame_of}
@@ -16,6 +18,8 @@ use Rattle.kn_rule.specs.Views.{View, State, Open, flattened}
 use Rattle.kn_rule.specs.Steps.{Found, callers, epoch_in}
 use Rattle.kn_rule.specs.Allowed.{MayPoll, MayStoreState, MayWrite, MayLoadBody, MaySet, MayReadGlobal, MaySetGlobal, MayBirth, MayLook}
 use Rattle.kn_rule.specs.Allowed.{MayWant, MayStorePhase, MayLoadState, MayCount}
+use Rattle.kn_rule.specs.MarkedHeap.{name_in_set, set_place}
+use Rattle.kn_rule.specs.MarkSteps.{MayMoveSet, MayLoadRoot, MayReserve, MayMoveMark, MayGiveUnit, MayTakeGray, MayLoadCell, MayBlacken}
 use Rattle.kn_board.specs.World.{World, slot_at, view_at, IsSlotOf, StandsFor, lies_at}
 use Rattle.kn_board.proofs.OwnedKept.{poll_keeps, write_keeps, load_keeps, store_keeps, global_keeps, born_keeps, look_keeps, want_keeps}
 use Rattle.kn_board.proofs.Sounds.{Fits}
@@ -122,4 +126,66 @@ module _ (w : World) (s : State) (h : StandsFor w s) (by : ℕ) (less : by < cal
       (record { takes = tt; pages = h.pages_are; hands = same_hands _ refl }))
   count_fits p a (inr m) =
       subst (λ q. FitsAt K16 q a) (sym m.place) (subst (λ b. FitsAt K16 Pending b) (sym m.act)
+      (record { takes = tt; pages = h.pages_are; hands = same_hands _ refl }))
+
+  -- no step of a marker changes a frame
+  pub set_fits : (p : Place) (a : Action) → MayMoveSet z by x p a → FitsAt K17 p a
+  set_fits p a (inl m) =
+      subst (λ q. FitsAt K17 q a) (sym m.place) (subst (λ b. FitsAt K17 (RootSet m.set) b) (sym m.act)
+      (record { takes = tt; pages = h.pages_are; hands = same_hands _ refl }))
+  set_fits p a (inr (inl m)) =
+      subst (λ q. FitsAt K17 q a) (sym m.place) (subst (λ b. FitsAt K17 (RootSet m.set) b) (sym m.act)
+      (record { takes = tt; pages = h.pages_are; hands = same_hands _ refl }))
+  set_fits p a (inr (inr m)) =
+      subst (λ q. FitsAt K17 q a) (sym m.place) (subst (λ b. FitsAt K17 (RootSet m.set) b) (sym m.act)
+      (record { takes = tt; pages = h.pages_are; hands = same_hands _ refl }))
+
+  root_fits : (b c : Bool) (set word : ℕ) →
+      FitsAt K18 (cond b (Global word) (cond c (Node (name_in_set z.sizes word)) (Local set word))) Loads
+  root_fits true c set word = record { takes = tt; pages = h.pages_are; hands = same_hands _ refl }
+  root_fits false true set word = record { takes = tt; pages = h.pages_are; hands = same_hands _ refl }
+  root_fits false false set word = record { takes = tt; pages = h.pages_are; hands = same_hands _ refl }
+
+  pub root_read_fits : (p : Place) (a : Action) → MayLoadRoot z by x p a → FitsAt K18 p a
+  root_read_fits p a m =
+      subst (λ q. FitsAt K18 q a) (sym m.place) (subst (λ b. FitsAt K18 (set_place z.sizes m.set m.word) b) (sym m.act)
+      (root_fits (eqb m.set z.sizes.threads) (eqb m.set (z.sizes.threads + 1)) m.set m.word))
+
+  pub reserve_fits : (p : Place) (a : Action) → MayReserve z by x p a → FitsAt K19 p a
+  reserve_fits p a m =
+      subst (λ q. FitsAt K19 q a) (sym m.place) (subst (λ b. FitsAt K19 Pending b) (sym m.act)
+      (record { takes = tt; pages = h.pages_are; hands = same_hands _ refl }))
+
+  pub mark_fits : (p : Place) (a : Action) → MayMoveMark z by x p a → FitsAt K20 p a
+  mark_fits p a (inl m) =
+      subst (λ q. FitsAt K20 q a) (sym m.place) (subst (λ b. FitsAt K20 (Side m.child) b) (sym m.act)
+      (record { takes = tt; pages = h.pages_are; hands = same_hands _ refl }))
+  mark_fits p a (inr (inl m)) =
+      subst (λ q. FitsAt K20 q a) (sym m.place) (subst (λ b. FitsAt K20 (Side m.object) b) (sym m.act)
+      (record { takes = tt; pages = h.pages_are; hands = same_hands _ refl }))
+  mark_fits p a (inr (inr m)) =
+      subst (λ q. FitsAt K20 q a) (sym m.place) (subst (λ b. FitsAt K20 (Side m.child) b) (sym m.act)
+      (record { takes = tt; pages = h.pages_are; hands = same_hands _ refl }))
+
+  pub give_fits : (p : Place) (a : Action) → MayGiveUnit z by x p a → FitsAt K21 p a
+  give_fits p a m =
+      subst (λ q. FitsAt K21 q a) (sym m.place) (subst (λ b. FitsAt K21 Pending b) (sym m.act)
+      (record { takes = tt; pages = h.pages_are; hands = same_hands _ refl }))
+
+  pub gray_fits : (p : Place) (a : Action) → MayTakeGray z by x p a → FitsAt K22 p a
+  gray_fits p a m =
+      subst (λ q. FitsAt K22 q a) (sym m.place) (subst (λ b. FitsAt K22 (Side m.object) b) (sym m.act)
+      (record { takes = tt; pages = h.pages_are; hands = same_hands _ refl }))
+
+  pub cell_fits : (p : Place) (a : Action) → MayLoadCell z by x p a → FitsAt K23 p a
+  cell_fits p a (inl m) =
+      subst (λ q. FitsAt K23 q a) (sym m.place) (subst (λ b. FitsAt K23 (Body m.object) b) (sym m.act)
+      (record { takes = tt; pages = h.pages_are; hands = same_hands _ refl }))
+  cell_fits p a (inr m) =
+      subst (λ q. FitsAt K23 q a) (sym m.place) (subst (λ b. FitsAt K23 (Body (m.object + 1 + m.field)) b) (sym m.act)
+      (record { takes = tt; pages = h.pages_are; hands = same_hands _ refl }))
+
+  pub black_fits : (p : Place) (a : Action) → MayBlacken z by x p a → FitsAt K24 p a
+  black_fits p a m =
+      subst (λ q. FitsAt K24 q a) (sym m.place) (subst (λ b. FitsAt K24 (Side m.object) b) (sym m.act)
       (record { takes = tt; pages = h.pages_are; hands = same_hands _ refl }))

@@ -8,6 +8,7 @@ use Rattle.kn_graph.specs.Ground.{Ground, IsGoodGround}
 use Rattle.kn_rule.specs.declared.steps.Kind.{Kind}
 use Rattle.kn_rule.specs.declared.steps.Kind.TheVariants.{K1, K2, K3, K4, K5, K6}
 use Rattle.kn_rule.specs.declared.steps.Kind.TheVariants.{K7, K8, K9, K10, K11, K12, K13, K14, K15, K16}
+use Rattle.kn_rule.specs.declared.steps.Kind.TheVariants.{K17, K18, K19, K20, K21, K22, K23, K24}
 use Rattle.kn_rule.specs.declared.steps.Action.{Action}
 use Rattle.kn_rule.specs.Views.{View, State}
 use Rattle.kn_rule.specs.Requests.{class_for, class_where}
@@ -16,11 +17,12 @@ use Rattle.kn_rule.specs.Allowed.{MayBe, MayMake, MayClaim}
 use Rattle.kn_rule.specs.Rule.{Rule, Shown}
 use Rattle.kn_keep_heap.proofs.NextWord.{request_two}
 use Rattle.kn_keep_heap.proofs.BirthLaw.{class_at, epoch_small}
-use Rattle.kn_keep_mark.proofs.Withins.{steps_lie_within}
+use Rattle.kn_keep_marking.proofs.Withins.{steps_lie_within}
 use Rattle.kn_board.specs.World.{World, word_at, slot_at, view_at, IsPageFound, StandsFor, Sound, world_after, lies_at}
 use Rattle.kn_board.proofs.Sounds.{Fits, sound_after, shown_after}
 use Rattle.kn_board.proofs.StepFits.{poll_fits, state_fits, local_fits, body_fits, field_fits, global_read_fits, global_fits, birth_fits, look_fits}
 use Rattle.kn_board.proofs.StepFits.{want_fits, phase_fits, load_state_fits, count_fits}
+use Rattle.kn_board.proofs.StepFits.{set_fits, root_read_fits, reserve_fits, mark_fits, give_fits, gray_fits, cell_fits, black_fits}
 use Rattle.kn_board.proofs.FrameFits.{home_fits, clear_fits}
 use Rattle.kn_board.proofs.ClaimFits.{claim_fits, new_owned}
 
@@ -69,6 +71,14 @@ module _ (w : World) (good : IsGoodGround w.heap) (s : State) (rule : Rule w.hea
   fits_by K14 p a m is l = phase_fits w s h by less f p a m
   fits_by K15 p a m is l = load_state_fits w s h by less f p a m
   fits_by K16 p a m is l = count_fits w s h by less f p a m
+  fits_by K17 p a m is l = set_fits w s h by less f p a m
+  fits_by K18 p a m is l = root_read_fits w s h by less f p a m
+  fits_by K19 p a m is l = reserve_fits w s h by less f p a m
+  fits_by K20 p a m is l = mark_fits w s h by less f p a m
+  fits_by K21 p a m is l = give_fits w s h by less f p a m
+  fits_by K22 p a m is l = gray_fits w s h by less f p a m
+  fits_by K23 p a m is l = cell_fits w s h by less f p a m
+  fits_by K24 p a m is l = black_fits w s h by less f p a m
   fits_by _ p a m is l = absurd m
 
   module _ (d : Step) (may : MayMake z by x (lies_at w) d) (is : f.word ≡ word_at w d.place)

@@ -1,18 +1,23 @@
 -- One step of the board, by what is stored.
-use Rattle.std.proofs.Common.{◌≡◌, ◌≢◌, ℕ, ◌+◌, ◌<◌, ◌≤◌, ◌⊎◌, inl, inr, Bool, true, List, [], ◌∷◌, length}
+use Rattle.std.proofs.Common.{◌≡◌, ◌≢◌, ℕ, ◌+◌, ◌*◌, ◌^◌, ◌<◌, ◌≤◌, ◌⊎◌, inl, inr, Bool, true, List, []}
+use Rattle.std.proofs.Common.{◌∷◌, length}
 use Rattle.std.proofs.Common.{map, Option, Some, None, is_some}
 use Rattle.std.proofs.Common.{refl, sym, ap, ◌∙◌, subst}
 use Rattle.std.proofs.Common.{slice_set, arith, get_or-set_same, get_or-set_other, length-append}
 use Rattle.kn_base.specs.declared.places.Place.{Place}
+use Rattle.kn_base.specs.declared.places.Place.TheVariants.{Pending}
 use Rattle.kn_base.specs.declared.limits.TheConstants.{MOST_CALLS}
 use Rattle.kn_base.specs.Pages.{FrameView}
 use Rattle.kn_base.proofs.Updates.{split_at}
 use Rattle.kn_graph.specs.declared.entries.Entry.{Entry}
+use Rattle.kn_graph.specs.declared.entries.Event.{Event}
+use Rattle.kn_graph.specs.declared.entries.Event.TheVariants as events
 use Rattle.kn_graph.specs.Ground.{Ground}
 use Rattle.kn_graph.specs.Logs.{log_of}
 use Rattle.kn_rule.specs.declared.steps.Kind.{Kind}
 use Rattle.kn_rule.specs.declared.steps.Kind.TheVariants.{K1, K2, K3, K4, K5, K6}
 use Rattle.kn_rule.specs.declared.steps.Kind.TheVariants.{K7, K8, K9, K10, K11, K12, K13, K14, K15, K16}
+use Rattle.kn_rule.specs.declared.steps.Kind.TheVariants.{K17, K18, K19, K20, K21, K22, K23, K24}
 use Rattle.kn_rule.specs.declared.steps.Action.{Action}
 use Rattle.kn_rule.specs.declared.positions.Position.{Position}
 use Rattle.kn_rule.specs.declared.positions.Position.TheVariants.{Calling}
@@ -22,21 +27,23 @@ use Rattle.kn_rule.specs.Views.{View, State}
 use Rattle.kn_rule.specs.Steps.{Step, Found, Outcome, does, found, callers, frame_in, logged, more, word_wanted, word_after}
 use Rattle.kn_rule.specs.Outcomes.{outcome, wanted_at, count_at}
 use Rattle.kn_rule.specs.Allowed.{MayBe, MayMake, MayWant, MayCount}
+use Rattle.kn_rule.specs.MarkSteps.{IsMarker, MayMoveSet, MayMoveMark, MayLoadCell, MayReserve}
 use Rattle.kn_rule.specs.Moves.{view_after}
 use Rattle.kn_rule.specs.Rule.{Rule, fresh}
-use Rattle.kn_keep_mark.proofs.Withins.{steps_lie_within}
+use Rattle.kn_keep_marking.proofs.Withins.{steps_lie_within}
 use Rattle.kn_steps.specs.Made.{Made}
 use Rattle.kn_view.specs.Parts.{Part, said_list, view_with}
 use Rattle.kn_view.specs.Words.{MayLeave}
 use Rattle.kn_holds.specs.Holds.{Hold}
 use Rattle.kn_board.specs.World.{World, world, word_at, slot_at, view_at, lies_at, IsPageFound, StandsFor, Sound, StepsTo, world_after, stand_at}
 use Rattle.kn_board.specs.Parts.{own_of, view_of, views_from, world_of}
-use Rattle.kn_board.specs.Room.{AreCallsOf, IsAtMostACall}
+use Rattle.kn_board.specs.Room.{IsCall, IsPause, IsMadeBy, AreMade, IsAtMostOne, IsOfKind}
 use Rattle.kn_board.specs.Stored.{IsWide, Kept, part_at}
 use Rattle.kn_board.specs.Asks.{Asks}
 use Rattle.kn_board.specs.Noted.{Noted}
 use Rattle.kn_board.proofs.AsksOf.{asks_by}
-use Rattle.kn_board.proofs.Leavings.{Leaves, outcome_leaves}
+use Rattle.kn_board.proofs.Leavings.{LeavesOf, outcome_leaves}
+use Rattle.kn_board.proofs.ShareFits.{count_small}
 use Rattle.kn_board.proofs.Room.{histories_fit}
 use Rattle.kn_board.proofs.StepMade.{step_made}
 use Rattle.kn_board.proofs.StepSound.{step_sound}
@@ -51,13 +58,25 @@ lies_or : (slot : Option FrameView) → is_some slot ≡ true → slot ≡ Some 
 lies_or None e = cc
 lies_or (Some page) e = refl
 
--- one call more
-calls_more : (n c : ℕ) (h : List Entry) (said : Option Entry) → (c < n) ⊎ (said_list said ≡ []) → AreCallsOf n h →
-    IsAtMostACall c (said_list said) → AreCallsOf n (more h (said_list said))
-calls_more n c h None l a m = a
-calls_more n c h (Some e) (inr l) a m = let x : e ∷ [] ≡ [] = l in absurd (cc)
-calls_more n c [] (Some e) (inl l) a m = ((subst (λ i. i < n) (sym m.0) l, m.1), tt)
-calls_more n c (x ∷ h) (Some e) (inl l) a m = (a.0, calls_more n c h (Some e) (inl l) a.1 m)
+-- a caller may say what is of a sort
+abbrev MaySay : ℕ → ℕ → (Event → Type 0) → Type 0
+MaySay n c IsSort = (what : Event) → IsSort what → IsMadeBy n c what
+
+call_made : (n c : ℕ) → c < n → MaySay n c IsCall
+call_made n c l (events.Call call reply address) h = l
+call_made n c l _ h = absurd h
+
+pause_made : (n c : ℕ) → c ≡ n → MaySay n c IsPause
+pause_made n c e (events.Pause i) h = e
+pause_made n c e _ h = absurd h
+
+-- one entry more
+made_more : (IsSort : Event → Type 0) (n c : ℕ) (h : List Entry) (said : Option Entry) → MaySay n c IsSort ⊎ (said_list said ≡ []) → AreMade n h →
+    IsAtMostOne IsSort c (said_list said) → AreMade n (more h (said_list said))
+made_more IsSort n c h None l a m = a
+made_more IsSort n c h (Some e) (inr l) a m = let x : e ∷ [] ≡ [] = l in absurd (cc)
+made_more IsSort n c [] (Some e) (inl l) a m = (subst (λ i. IsMadeBy n i e.what) (sym m.0) (l e.what m.1), tt)
+made_more IsSort n c (x ∷ h) (Some e) (inl l) a m = (a.0, made_more IsSort n c h (Some e) (inl l) a.1 m)
 
 longer : (h : List Entry) (said : Option Entry) → said ≢ None → length (more h (said_list said)) ≡ length h + 1
 longer h None n = absurd (n refl)
@@ -72,24 +91,33 @@ module _ (z : Ground) (by : ℕ) (v : View) (here : ℕ → Bool) (p : Place) (a
   count_quiet f (Stores n) = refl
   count_quiet f _ = refl
 
-  -- a step of a built kind is a mutator's, or says nothing
-  speaker : (f : Found) (k : Kind) → MayBe z by v here k p a → (by < z.sizes.threads) ⊎ ((outcome z by v p a f k).says ≡ [])
-  speaker f K1 m = inl m.thread
+  -- a step's caller may say what a step of its kind says, or it says nothing
+  speaker : (f : Found) (k : Kind) → MayBe z by v here k p a →
+      MaySay z.sizes.threads by (IsOfKind k) ⊎ ((outcome z by v p a f k).says ≡ [])
+  speaker f K1 m = inl (call_made z.sizes.threads by m.thread)
   speaker f K2 m = inr refl
-  speaker f K3 m = inl m.thread
-  speaker f K4 m = inl m.thread
-  speaker f K5 m = inl m.thread
-  speaker f K6 m = inl m.thread
-  speaker f K7 m = inl m.thread
-  speaker f K8 m = inl m.thread
-  speaker f K9 m = inl m.search.thread
-  speaker f K10 m = inl m.search.thread
-  speaker f K11 m = inl m.thread
-  speaker f K12 m = inl m.thread
+  speaker f K3 m = inl (call_made z.sizes.threads by m.thread)
+  speaker f K4 m = inl (call_made z.sizes.threads by m.thread)
+  speaker f K5 m = inl (call_made z.sizes.threads by m.thread)
+  speaker f K6 m = inl (call_made z.sizes.threads by m.thread)
+  speaker f K7 m = inl (call_made z.sizes.threads by m.thread)
+  speaker f K8 m = inl (call_made z.sizes.threads by m.thread)
+  speaker f K9 m = inl (call_made z.sizes.threads by m.search.thread)
+  speaker f K10 m = inl (call_made z.sizes.threads by m.search.thread)
+  speaker f K11 m = inl (call_made z.sizes.threads by m.thread)
+  speaker f K12 m = inl (call_made z.sizes.threads by m.thread)
   speaker f K13 m = inr (want_quiet f v.position)
-  speaker f K14 m = inr refl
+  speaker f K14 m = inl (pause_made z.sizes.threads by m.collects.collector)
   speaker f K15 m = inr refl
   speaker f K16 m = inr (count_quiet f a)
+  speaker f K17 m = inr refl
+  speaker f K18 m = inr refl
+  speaker f K19 m = inr refl
+  speaker f K20 m = inr refl
+  speaker f K21 m = inr refl
+  speaker f K22 m = inr refl
+  speaker f K23 m = inr refl
+  speaker f K24 m = inr refl
   speaker f _ m = absurd m
 
   want_word : (n : ℕ) → MayWant z by v here p a → MayLeave a n
@@ -100,25 +128,51 @@ module _ (z : Ground) (by : ℕ) (v : View) (here : ℕ → Bool) (p : Place) (a
   count_word n (inl m) = subst (λ a. MayLeave a n) (sym m.act) tt
   count_word n (inr m) = subst (λ a. MayLeave a n) (sym m.act) tt
 
+  set_word : (n : ℕ) → MayMoveSet z by v p a → MayLeave a n
+  set_word n (inl m) = subst (λ a. MayLeave a n) (sym m.act) tt
+  set_word n (inr (inl m)) = subst (λ a. MayLeave a n) (sym m.act) tt
+  set_word n (inr (inr m)) = subst (λ a. MayLeave a n) (sym m.act) tt
+
+  mark_word : (n : ℕ) → MayMoveMark z by v p a → MayLeave a n
+  mark_word n (inl m) = subst (λ a. MayLeave a n) (sym m.act) tt
+  mark_word n (inr (inl m)) = subst (λ a. MayLeave a n) (sym m.act) tt
+  mark_word n (inr (inr m)) = subst (λ a. MayLeave a n) (sym m.act) tt
+
+  cell_word : (n : ℕ) → MayLoadCell z by v p a → MayLeave a n
+  cell_word n (inl m) = subst (λ a. MayLeave a n) (sym m.act) tt
+  cell_word n (inr m) = subst (λ a. MayLeave a n) (sym m.act) tt
+
+  -- the count of open work has room, where one is added to it
+  abbrev HasRoom : ℕ → Type 0
+  HasRoom n = MayReserve z by v p a → n + 1 < 2 ^ 64
+
   -- it leaves a word
-  leaves_word : (n : ℕ) (k : Kind) → MayBe z by v here k p a → MayLeave a n
-  leaves_word n K1 m = subst (λ a. MayLeave a n) (sym m.act) tt
-  leaves_word n K2 m = subst (λ a. MayLeave a n) (sym m.word) tt
-  leaves_word n K3 m = subst (λ a. MayLeave a n) (sym m.word) tt
-  leaves_word n K4 m = subst (λ a. MayLeave a n) (sym m.act) tt
-  leaves_word n K5 m = subst (λ a. MayLeave a n) (sym m.word) tt
-  leaves_word n K6 m = subst (λ a. MayLeave a n) (sym m.act) tt
-  leaves_word n K7 m = subst (λ a. MayLeave a n) (sym m.word) tt
-  leaves_word n K8 m = subst (λ a. MayLeave a n) (sym m.word) tt
-  leaves_word n K9 m = subst (λ a. MayLeave a n) (sym m.act) tt
-  leaves_word n K10 m = subst (λ a. MayLeave a n) (sym m.word) tt
-  leaves_word n K11 m = subst (λ a. MayLeave a n) (sym m.word) tt
-  leaves_word n K12 m = subst (λ a. MayLeave a n) (sym m.word) tt
-  leaves_word n K13 m = want_word n m
-  leaves_word n K14 m = subst (λ a. MayLeave a n) (sym m.act) tt
-  leaves_word n K15 m = subst (λ a. MayLeave a n) (sym m.act) tt
-  leaves_word n K16 m = count_word n m
-  leaves_word n _ m = absurd m
+  leaves_word : (n : ℕ) → HasRoom n → (k : Kind) → MayBe z by v here k p a → MayLeave a n
+  leaves_word n room K1 m = subst (λ a. MayLeave a n) (sym m.act) tt
+  leaves_word n room K2 m = subst (λ a. MayLeave a n) (sym m.word) tt
+  leaves_word n room K3 m = subst (λ a. MayLeave a n) (sym m.word) tt
+  leaves_word n room K4 m = subst (λ a. MayLeave a n) (sym m.act) tt
+  leaves_word n room K5 m = subst (λ a. MayLeave a n) (sym m.word) tt
+  leaves_word n room K6 m = subst (λ a. MayLeave a n) (sym m.act) tt
+  leaves_word n room K7 m = subst (λ a. MayLeave a n) (sym m.word) tt
+  leaves_word n room K8 m = subst (λ a. MayLeave a n) (sym m.word) tt
+  leaves_word n room K9 m = subst (λ a. MayLeave a n) (sym m.act) tt
+  leaves_word n room K10 m = subst (λ a. MayLeave a n) (sym m.word) tt
+  leaves_word n room K11 m = subst (λ a. MayLeave a n) (sym m.word) tt
+  leaves_word n room K12 m = subst (λ a. MayLeave a n) (sym m.word) tt
+  leaves_word n room K13 m = want_word n m
+  leaves_word n room K14 m = subst (λ a. MayLeave a n) (sym m.act) tt
+  leaves_word n room K15 m = subst (λ a. MayLeave a n) (sym m.act) tt
+  leaves_word n room K16 m = count_word n m
+  leaves_word n room K17 m = set_word n m
+  leaves_word n room K18 m = subst (λ a. MayLeave a n) (sym m.act) tt
+  leaves_word n room K19 m = subst (λ a. MayLeave a n) (sym m.act) (room m)
+  leaves_word n room K20 m = mark_word n m
+  leaves_word n room K21 m = subst (λ a. MayLeave a n) (sym m.act) tt
+  leaves_word n room K22 m = subst (λ a. MayLeave a n) (sym m.act) tt
+  leaves_word n room K23 m = cell_word n m
+  leaves_word n room K24 m = subst (λ a. MayLeave a n) (sym m.act) tt
+  leaves_word n room _ m = absurd m
 
   -- and finds the page that it takes
   page_found : (n : ℕ) (slot : ℕ → Option FrameView) → ((j : ℕ) → here j ≡ is_some (slot j)) → (part : Part) (holds : List Hold) (k : Kind) →
@@ -176,7 +230,13 @@ module _ (z : Ground) (words : List ℕ) (slots : List (Option FrameView)) (know
     within = steps_lie_within z s by (lies_at w) (does k p a) sound.0 rule (subst (λ v. MayBe z by v (lies_at w) k p a) (sym is) may')
 
     pub leaves : MayLeave a n
-    leaves = leaves_word z by v (lies_at w) p a n k may'
+    leaves = leaves_word z by v (lies_at w) p a n has_room k may'
+      where
+        has_room : MayReserve z by v p a → n + 1 < 2 ^ 64
+        has_room m =
+            let found : s.word Pending ≡ n = ap s.word (sym m.place) ∙ sym (stands.words_are p within) in
+            let few = count_small z sound.0 s rule.0 rule.1 by (subst (λ v. IsMarker z by v) (sym is) m.marker) m.child m.mark
+            (ap (λ (v : View). v.work.child) is ∙ m.is_seen) in omega (arith, found, few)
 
     pub wide : IsWide z.sizes part
     wide = kept.wide by less
@@ -206,30 +266,32 @@ module _ (z : Ground) (words : List ℕ) (slots : List (Option FrameView)) (know
       mine : (record { view = view_with z part' (map (own_of by) holds') (log_of by history); says = said_list said }) ≡ outcome z by v p a f k
       mine = noted.mine (log_of by history)
 
-      left : Leaves z by v p a f (outcome z by v p a f k)
+      left : LeavesOf z by v p a f (IsOfKind k) (outcome z by v p a f k)
       left = outcome_leaves z by v p a f k
 
-      said_by : IsAtMostACall by (said_list said)
-      said_by = subst (λ (o : Outcome). IsAtMostACall by o.says) (sym mine) left.1
+      said_by : IsAtMostOne (IsOfKind k) by (said_list said)
+      said_by = subst (λ (o : Outcome). IsAtMostOne (IsOfKind k) by o.says) (sym mine) left.1
 
       after_is : view_of z by part' holds' h' ≡ view_after z by (view_at w by) d f
       after_is =
-          ap (view_with z part' (map (own_of by) holds')) (log_mine by history said said_by)
+          ap (view_with z part' (map (own_of by) holds')) (log_mine (IsOfKind k) by history said said_by)
           ∙ (ap logged mine ∙ ap (λ v. view_after z by v d f) (sym view_is))
 
       views_are : views_from z 0 (slice_set known by part') holds' h' ≡ slice_set w.views by (view_after z by (view_at w by) d f)
       views_are =
           let e = stands.views in let l = long_from z 0 known holds history in
           views_set z holds holds' history h' known by part' near_by
-          (λ c a ne. (noted.others c (omega arith) ne, log_other by c history said said_by ne)) ∙ ap (slice_set w.views by) after_is
+          (λ c a ne. (noted.others c (omega arith) ne, log_other (IsOfKind k) by c history said said_by ne)) ∙ ap (slice_set w.views by) after_is
 
       history_is : h' ≡ more history (outcome z by (view_at w by) p a f k).says
       history_is = ap (λ (o : Outcome). more history o.says) mine ∙ ap (λ v. more history (outcome z by v p a f k).says) (sym view_is)
 
-      calls_after : AreCallsOf z.sizes.threads h'
-      calls_after = calls_more z.sizes.threads by history said (spoken (speaker z by v (lies_at w) p a f k may')) kept.calls said_by
+      made_after : AreMade z.sizes.threads h'
+      made_after =
+          made_more (IsOfKind k) z.sizes.threads by history said (spoken (speaker z by v (lies_at w) p a f k may')) kept.made said_by
         where
-          spoken : (by < z.sizes.threads) ⊎ ((outcome z by v p a f k).says ≡ []) → (by < z.sizes.threads) ⊎ (said_list said ≡ [])
+          spoken : MaySay z.sizes.threads by (IsOfKind k) ⊎ ((outcome z by v p a f k).says ≡ []) →
+              MaySay z.sizes.threads by (IsOfKind k) ⊎ (said_list said ≡ [])
           spoken (inl l) = inl l
           spoken (inr e) = inr (ap (λ (o : Outcome). o.says) mine ∙ e)
 
@@ -241,8 +303,8 @@ module _ (z : Ground) (words : List ℕ) (slots : List (Option FrameView)) (know
       room_for some =
           let after = sound_after.1 in
           let same : after.0.history ≡ h' = sym after.2.history_is ∙ sym history_is in
-          let short : length after.0.history ≤ MOST_CALLS =
-          histories_fit z sound.0 after.0 after.1 (subst (λ h. AreCallsOf z.sizes.threads h) (sym same) calls_after) in
+          let short : length after.0.history ≤ 2 * MOST_CALLS =
+          histories_fit z sound.0 after.0 after.1 (subst (λ h. AreMade z.sizes.threads h) (sym same) made_after) in
           let l : length after.0.history ≡ length h' = ap length same in
           let m = longer history said some in let most = kept.history_room in omega arith
 
@@ -261,7 +323,7 @@ module _ (z : Ground) (words : List ℕ) (slots : List (Option FrameView)) (know
             (λ ne near. subst (IsWide z.sizes) (sym (get_or-set_other known by c part' _ (λ e. ne (sym e)))) (kept.wide c near)) near;
         frames = noted.fits;
         pages = kept.pages;
-        calls = calls_after;
+        made = made_after;
         history_room = let m = kept.history_room in omega arith;
       }
 

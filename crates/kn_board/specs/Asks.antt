@@ -1,7 +1,7 @@
 -- What a step of each kind asks of what is stored of its caller's view.
 use Rattle.std.specs.Prelude.{◌≡◌, ℕ, ◌+◌, ◌<◌, ◌^◌, List, Option, Some, None}
 use Rattle.kn_base.specs.declared.places.Place.{Place}
-use Rattle.kn_base.specs.declared.places.Place.TheVariants.{Phase, State, Local, Frame, Side, Body}
+use Rattle.kn_base.specs.declared.places.Place.TheVariants.{Phase, State, RootSet, Local, Frame, Side, Body}
 use Rattle.kn_base.specs.Sizes.{frame_count}
 use Rattle.kn_base.specs.Spans.{LiesIn}
 use Rattle.kn_base.specs.Pages.{FrameView}
@@ -10,6 +10,7 @@ use Rattle.kn_graph.specs.Ground.{Ground}
 use Rattle.kn_rule.specs.declared.steps.Kind.{Kind}
 use Rattle.kn_rule.specs.declared.steps.Kind.TheVariants.{K1, K2, K3, K4, K5, K6}
 use Rattle.kn_rule.specs.declared.steps.Kind.TheVariants.{K7, K8, K9, K10, K11, K12, K13, K14, K15, K16}
+use Rattle.kn_rule.specs.declared.steps.Kind.TheVariants.{K17, K18, K19, K20, K21, K22, K23, K24}
 use Rattle.kn_rule.specs.declared.steps.Action.{Action}
 use Rattle.kn_rule.specs.declared.steps.Action.TheVariants.{LoadsFor, Stores, Swaps}
 use Rattle.kn_rule.specs.declared.positions.Position.TheVariants.{Calling}
@@ -19,6 +20,7 @@ use Rattle.kn_rule.specs.Requests.{words_asked, AreFree}
 use Rattle.kn_rule.specs.Steps.{callers}
 use Rattle.kn_rule.specs.HistoryClauses.{IsRightCall}
 use Rattle.kn_view.specs.Parts.{Part, MayBegin, IsReadable, IsBirthLocal}
+use Rattle.kn_view.specs.Shares.{MayOwe, IsChildNear, IsRootRead, IsCellRead}
 use Rattle.kn_holds.specs.Holds.{Hold}
 use Rattle.kn_board.specs.Parts.{own_of}
 use Rattle.kn_board.specs.Stored.{hold_at}
@@ -64,11 +66,27 @@ module _ (z : Ground) (by : ℕ) (part : Part) (p : Place) (a : Action) (n : ℕ
   pub record AsksPhase : Type 0 where
     pub value : ℕ
     pub act : a ≡ Stores value
+    pub small : value < 2 ^ 35
 
   pub record AsksLoadState : Type 0 where
     pub mutator : ℕ
     pub place : p ≡ State mutator
     pub near : mutator < z.sizes.threads
+
+  pub record AsksSet : Type 0 where
+    pub set : ℕ
+    pub place : p ≡ RootSet set
+    pub owes : MayOwe part.work
+
+  pub record AsksMark : Type 0 where
+    pub object : ℕ
+    pub place : p ≡ Side object
+    pub owes : MayOwe part.work
+    pub near : IsChildNear part.work.doing part.work.child
+
+  pub record AsksGray : Type 0 where
+    pub object : ℕ
+    pub place : p ≡ Side object
 
   module _ (holds : List Hold) where
     -- where the claim wins, a page lies in the frame's slot, and nobody owns the frame
@@ -124,4 +142,12 @@ module _ (z : Ground) (by : ℕ) (part : Part) (p : Place) (a : Action) (n : ℕ
     Asks slot K14 = AsksPhase
     Asks slot K15 = AsksLoadState
     Asks slot K16 = Unit {0}
+    Asks slot K17 = AsksSet
+    Asks slot K18 = IsRootRead z.sizes part.work.doing n
+    Asks slot K19 = Unit {0}
+    Asks slot K20 = AsksMark
+    Asks slot K21 = Unit {0}
+    Asks slot K22 = AsksGray
+    Asks slot K23 = IsCellRead part.work.doing n
+    Asks slot K24 = MayOwe part.work
     Asks slot _ = ⊥

@@ -4,13 +4,16 @@ ghost use Rattle.kn_base.specs.Pages.{FrameView};
 ghost use Rattle.kn_graph.specs.Ground.{IsGoodGround};
 ghost use Rattle.kn_rule.specs.declared.steps.Kind.TheVariants.{K1, K2, K3, K4, K5, K6, K7, K8, K9};
 ghost use Rattle.kn_rule.specs.declared.steps.Kind.TheVariants.{K13, K14, K15, K16};
+ghost use Rattle.kn_rule.specs.declared.steps.Kind.TheVariants.{K17, K18, K19, K20, K21, K22, K23, K24};
 ghost use Rattle.kn_rule.specs.Outcomes.{outcome};
 ghost use Rattle.kn_rule.specs.Steps.{found};
 ghost use Rattle.kn_view.specs.Parts.{IsReadable, Makes, ground_of};
 ghost use Rattle.kn_board.specs.Asks.{AsksBirth, AsksFrame, AsksGlobal, AsksLoadState, AsksPhase, AsksPoll, AsksState, AsksWrite};
+ghost use Rattle.kn_board.specs.Asks.{AsksGray, AsksMark, AsksSet};
+ghost use Rattle.kn_view.specs.Shares.{IsCellRead, IsRootRead, MayOwe};
 ghost use Rattle.kn_board.specs.Stored.{IsWide};
 
-use crate::step::{StepFound, address_in, frame_in, local_in, mutator_in, next_of};
+use crate::step::{StepFound, address_in, frame_in, local_in, mutator_in, next_of, set_in};
 use kn_base::Sizes;
 use kn_graph::Entry;
 use kn_layout::Layout;
@@ -122,13 +125,18 @@ pub fn wants(sizes: &Sizes, layouts: &[Layout], known: &mut Known, step: StepFou
 
 /// A store of the phase.
 #[inline(always)]
-pub fn stores_phase(sizes: &Sizes, layouts: &[Layout], known: &mut Known, step: StepFound)
+pub fn stores_phase(
+    sizes: &Sizes,
+    layouts: &[Layout],
+    known: &mut Known,
+    step: StepFound,
+) -> Option<Entry>
     requires wide { IsWide sizes.now known.old }
     requires asks { AsksPhase (ground_of sizes.now layouts.now) step.by known.old step.place step.act step.word }
     ensures { let z = ground_of sizes.now layouts.now in (page : FrameView) →
-        Makes z known.old known.new None (λ v. outcome z step.by v step.place step.act (found step.word page) K14) }
+        Makes z known.old known.new result (λ v. outcome z step.by v step.place step.act (found step.word page) K14) }
 {
-    known.stores_phase(stored_by(step.act));
+    known.stores_phase(step.by, stored_by(step.act))
 }
 
 /// A load of a mutator's state.
@@ -149,4 +157,83 @@ pub fn counts_work(sizes: &Sizes, layouts: &[Layout], known: &mut Known, step: S
         Makes z known.old known.new None (λ v. outcome z step.by v step.place step.act (found step.word page) K16) }
 {
     known.counts_work(step.act, step.word);
+}
+
+/// A look at a root set, its claim, or its end.
+#[inline(always)]
+pub fn moves_set(sizes: &Sizes, layouts: &[Layout], known: &mut Known, step: StepFound)
+    requires { AsksSet (ground_of sizes.now layouts.now) step.by known.old step.place step.act step.word }
+    ensures { let z = ground_of sizes.now layouts.now in (page : FrameView) →
+        Makes z known.old known.new None (λ v. outcome z step.by v step.place step.act (found step.word page) K17) }
+{
+    known.moves_set(set_in(step.place), step.act, step.word);
+}
+
+/// A load of a word of a root set.
+#[inline(always)]
+pub fn reads_root(sizes: &Sizes, layouts: &[Layout], known: &mut Known, step: StepFound)
+    requires good { IsGoodGround (ground_of sizes.now layouts.now) }
+    requires asks { IsRootRead sizes.now known.old.work.doing step.word }
+    ensures { let z = ground_of sizes.now layouts.now in (page : FrameView) →
+        Makes z known.old known.new None (λ v. outcome z step.by v step.place step.act (found step.word page) K18) }
+{
+    known.reads_root(sizes, layouts, step.word);
+}
+
+/// A unit of work that is added.
+#[inline(always)]
+pub fn reserves(sizes: &Sizes, layouts: &[Layout], known: &mut Known, step: StepFound)
+    ensures { let z = ground_of sizes.now layouts.now in (page : FrameView) →
+        Makes z known.old known.new None (λ v. outcome z step.by v step.place step.act (found step.word page) K19) }
+{
+    known.reserves();
+}
+
+/// A load or an exchange of a mark.
+#[inline(always)]
+pub fn moves_mark(sizes: &Sizes, layouts: &[Layout], known: &mut Known, step: StepFound)
+    requires { AsksMark (ground_of sizes.now layouts.now) step.by known.old step.place step.act step.word }
+    ensures { let z = ground_of sizes.now layouts.now in (page : FrameView) →
+        Makes z known.old known.new None (λ v. outcome z step.by v step.place step.act (found step.word page) K20) }
+{
+    known.moves_mark(layouts, address_in(step.place), step.act, step.word);
+}
+
+/// A unit of work that is given back.
+#[inline(always)]
+pub fn gives_unit(sizes: &Sizes, layouts: &[Layout], known: &mut Known, step: StepFound)
+    ensures { let z = ground_of sizes.now layouts.now in (page : FrameView) →
+        Makes z known.old known.new None (λ v. outcome z step.by v step.place step.act (found step.word page) K21) }
+{
+    known.gives_unit();
+}
+
+/// The exchange of a gray mark.
+#[inline(always)]
+pub fn takes_gray(sizes: &Sizes, layouts: &[Layout], known: &mut Known, step: StepFound)
+    requires { AsksGray (ground_of sizes.now layouts.now) step.by known.old step.place step.act step.word }
+    ensures { let z = ground_of sizes.now layouts.now in (page : FrameView) →
+        Makes z known.old known.new None (λ v. outcome z step.by v step.place step.act (found step.word page) K22) }
+{
+    known.takes_gray(address_in(step.place), step.word);
+}
+
+/// A load of a word of a scanned cell.
+#[inline(always)]
+pub fn reads_cell(sizes: &Sizes, layouts: &[Layout], known: &mut Known, step: StepFound)
+    requires { IsCellRead known.old.work.doing step.word }
+    ensures { let z = ground_of sizes.now layouts.now in (page : FrameView) →
+        Makes z known.old known.new None (λ v. outcome z step.by v step.place step.act (found step.word page) K23) }
+{
+    known.reads_cell(layouts, step.word);
+}
+
+/// A mark that becomes black.
+#[inline(always)]
+pub fn blackens(sizes: &Sizes, layouts: &[Layout], known: &mut Known, step: StepFound)
+    requires { MayOwe known.old.work }
+    ensures { let z = ground_of sizes.now layouts.now in (page : FrameView) →
+        Makes z known.old known.new None (λ v. outcome z step.by v step.place step.act (found step.word page) K24) }
+{
+    known.blackens();
 }

@@ -13,8 +13,9 @@ ghost use Rattle.kn_board.specs.World.{IsPageFound};
 
 use crate::frames::{claims, clears, puts_home};
 use crate::kinds::{
-    bears, counts_work, goes, loads, loads_state, looks, polls, reads, stores, stores_phase, wants,
-    writes,
+    bears, blackens, counts_work, gives_unit, goes, loads, loads_state, looks, moves_mark,
+    moves_set, polls, reads, reads_cell, reads_root, reserves, stores, stores_phase, takes_gray,
+    wants, writes,
 };
 use crate::step::StepFound;
 use kn_base::{FramePage, Sizes};
@@ -70,16 +71,45 @@ pub fn notes<P: FramePage>(
             wants(sizes, layouts, known, step);
             None
         }
-        Kind::K14 => {
-            stores_phase(sizes, layouts, known, step);
-            None
-        }
+        Kind::K14 => stores_phase(sizes, layouts, known, step),
         Kind::K15 => {
             loads_state(sizes, layouts, known, step);
             None
         }
         Kind::K16 => {
             counts_work(sizes, layouts, known, step);
+            None
+        }
+        Kind::K17 => {
+            moves_set(sizes, layouts, known, step);
+            None
+        }
+        Kind::K18 => {
+            reads_root(sizes, layouts, known, step);
+            None
+        }
+        Kind::K19 => {
+            reserves(sizes, layouts, known, step);
+            None
+        }
+        Kind::K20 => {
+            moves_mark(sizes, layouts, known, step);
+            None
+        }
+        Kind::K21 => {
+            gives_unit(sizes, layouts, known, step);
+            None
+        }
+        Kind::K22 => {
+            takes_gray(sizes, layouts, known, step);
+            None
+        }
+        Kind::K23 => {
+            reads_cell(sizes, layouts, known, step);
+            None
+        }
+        Kind::K24 => {
+            blackens(sizes, layouts, known, step);
             None
         }
         _ => None,

@@ -74,7 +74,7 @@ impl<P: FramePage> Plain<P> {
         let slots = in_slots(alloc, pages)?;
         let known = newcomers(alloc, sizes)?;
         let holds = free_frames(alloc, sizes)?;
-        let history = Vec::with_capacity(alloc, MOST_CALLS as usize)?;
+        let history = Vec::with_capacity(alloc, 2 * MOST_CALLS as usize)?;
         Ok(Plain {
             sizes: *sizes,
             layouts: copies,

@@ -1,6 +1,6 @@
 //! A step, and what its place and its action tell.
 ghost use Rattle.std.specs.Prelude.{◌≡◌};
-ghost use Rattle.kn_rule.specs.Steps.{address_in, frame_in, local_in, next_of, state_in};
+ghost use Rattle.kn_rule.specs.Steps.{address_in, frame_in, local_in, next_of, set_in, state_in};
 
 use kn_base::Place;
 use kn_graph::Call;
@@ -53,6 +53,16 @@ pub fn mutator_in(place: Place) -> u8
 {
     match place {
         Place::State(i) => i,
+        _ => 0,
+    }
+}
+
+#[inline(always)]
+pub fn set_in(place: Place) -> u8
+    ensures { result ≡ set_in place }
+{
+    match place {
+        Place::RootSet(j) => j,
         _ => 0,
     }
 }

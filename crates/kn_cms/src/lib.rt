@@ -17,4 +17,4 @@ mod words;
 
 pub use kn_cms_rule::CmsTurn;
 pub use machine::Core;
-pub use words::{CORE_WORDS, read_core_script};
+pub use words::{CORE_WORDS, core_words_law, read_core_script};

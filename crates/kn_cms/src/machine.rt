@@ -26,8 +26,8 @@ use kn_script::Script;
 use std::alloc::{AllocError, Global};
 use std::marker::Model;
 
-/// A core over a script. Contracts see the record `Kept` in `specs/Kept.antt`; the states that it
-/// stands for (`StandsFor` there) meet the rule of the core.
+/// A core over a script. Contracts see the record `Kept` in `specs/Kept.antt` of `kn_cms_lists`; the
+/// states that it stands for (`StandsFor` in `specs/Stands.antt`) meet the rule of the core.
 #[derive(Drop)]
 pub struct Core {
     lists: Lists,

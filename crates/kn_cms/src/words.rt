@@ -5,6 +5,7 @@ ghost use Rattle.std.specs.List.{AllByRecursion};
 ghost use Rattle.kn_script.specs.Good.{IsGoodScript};
 ghost use Rattle.kn_script.specs.Grammar.{IfBad, IsBad, IsText};
 ghost use Rattle.kn_cms_rule.specs.Calls.{is_core_call};
+ghost use Rattle.kn_cms.specs.CoreWords.{HasAllHeaders, HasCoreCalls, HasCoreParts};
 
 use kn_lines::Built;
 use kn_script::{Fault, Script, read_script};
@@ -20,6 +21,14 @@ pub const CORE_WORDS: Built = Built {
     ],
     orders: [true, true, false, true, true, true, false, false],
 };
+
+/// `CORE_WORDS` has exactly the words of the core's calls, every header word, and exactly the parts of
+/// its order words.
+pub fn core_words_law()
+    ensures calls { HasCoreCalls CORE_WORDS }
+    ensures headers { HasAllHeaders CORE_WORDS }
+    ensures parts { HasCoreParts CORE_WORDS }
+{}
 
 /// The script of the core whose text the bytes are (`IsText` in `specs/Grammar.antt` of `kn_script`),
 /// or the first bad line and the first reason that it meets. Want of memory is the one other error.

@@ -1,5 +1,5 @@
 //! What the core keeps, as lists, and the writes that its steps make of them. What these lists stand
-//! for is said by `StandsFor` in `specs/Kept.antt`.
+//! for is said by `StandsFor` in `specs/Stands.antt` of `kn_cms`.
 
 ghost use Rattle.std.specs.Prelude.{◌≡◌, ℕ, ◌+◌, ◌-◌, ◌^◌, ◌<◌, ◌≤◌, Option, Some, None, IfOk, [], ◌∷◌, ◌++◌};
 ghost use Rattle.std.specs.Prelude.{length, min, replicate};

@@ -10,12 +10,15 @@ use Rattle.kn_base.specs.declared.phase_word.PhaseWord.{PhaseWord}
 use Rattle.kn_base.specs.declared.places.Place.TheVariants.{Phase, Want, Pending, State as StateOf}
 use Rattle.kn_base.specs.Functions.{Tells}
 use Rattle.kn_base.proofs.Updates.{get_set_else, get_set_here}
+use Rattle.kn_graph.specs.declared.entries.Entry.{Entry}
+use Rattle.kn_marking.specs.declared.work.Work.{Work}
 use Rattle.kn_rule.specs.declared.positions.Position.TheVariants as positions
 use Rattle.kn_rule.specs.declared.steps.Action.TheVariants.{Loads, Stores}
 use Rattle.kn_rule.specs.declared.steps.Kind.TheVariants.{K2, K13, K14, K15, K16}
-use Rattle.kn_rule.specs.Outcomes.{wanted_at}
+use Rattle.kn_rule.specs.MarkSteps.{joined_by}
+use Rattle.kn_rule.specs.Outcomes.{paused_at, wanted_at}
 use Rattle.kn_rule.specs.Phases.{is_stop}
-use Rattle.kn_rule.specs.Steps.{Found, does, logged}
+use Rattle.kn_rule.specs.Steps.{Found, does, logged, more}
 use Rattle.kn_rule.specs.Views.{Collecting}
 use Rattle.kn_rule.proofs.Decodings.{phase_packed}
 use Rattle.kn_steps.specs.Made.{Made, Stand}
@@ -54,13 +57,13 @@ module _ {k : Kept} {a : Stand} (g : Agrees k a) where
   some : 0 < k.by
   some = let l = g.good.sizes.of_threads.threads.0 in let n = g.collector in omega (arith, l, n)
 
-  -- the part of the collector alone changed
+  -- the part of the collector, and its share in marking, alone changed
   module _ {b : Stand} where
-    agrees_with : (t t' : Stage) (epoch : ℕ) (part : Collecting) → k.stage ≡ t → position_at t ≡ position_at t' →
-        b ≡ record a { view = record a.view { collecting = part } } → part.stored ≡ phase_word epoch (code_at t') →
+    agrees_with : (t t' : Stage) (epoch : ℕ) (work : Work) (part : Collecting) → k.stage ≡ t → position_at t ≡ position_at t' →
+        b ≡ record a { view = record a.view { work = work; collecting = part } } → part.stored ≡ phase_word epoch (code_at t') →
         length part.ended ≡ k.by → length part.counted ≡ k.by → AtStage t' (record k { epoch = epoch; stage = t' }) part →
         Agrees (record k { epoch = epoch; stage = t' }) b
-    agrees_with t t' epoch part is same view stored ended counted at =
+    agrees_with t t' epoch work part is same view stored ended counted at =
         subst (λ b. Agrees (record k { epoch = epoch; stage = t' }) b) (sym view)
         (record {
           good = g.good;
@@ -82,7 +85,7 @@ module _ {k : Kept} {a : Stand} (g : Agrees k a) where
       heard_with : (t t' : Stage) → k.stage ≡ t → position_at t ≡ position_at t' → code_at t ≡ code_at t' →
           AtStage t' (record k { stage = t' }) heard → Agrees (record k { stage = t' }) b
       heard_with t t' is same code at =
-          agrees_with t t' k.epoch heard is same made.view (stored_at t is ∙ ap (phase_word k.epoch) code)
+          agrees_with t t' k.epoch a.view.work heard is same made.view (stored_at t is ∙ ap (phase_word k.epoch) code)
           (length-set old.ended i (eqb f.word 2) ∙ g.ended) (length-set old.counted i (cond (eqb f.word 1) false true) ∙ g.counted) at
 
       pub looked_agrees : k.stage ≡ Looks i → Agrees (behind k (Looks i) f.word) b
@@ -143,7 +146,7 @@ module _ {k : Kept} {a : Stand} (g : Agrees k a) where
         with : (all : Bool) → k.stage ≡ Wants all → (t' : Stage) → positions.Out ≡ position_at t' → codes.Idle ≡ code_at t' →
             AtStage t' (record k { stage = t' }) (record old { wanted = f.word }) → Agrees (record k { stage = t' }) b
         with all is t' same code at =
-            agrees_with (Wants all) t' k.epoch (record old { wanted = f.word }) is same view
+            agrees_with (Wants all) t' k.epoch a.view.work (record old { wanted = f.word }) is same view
             (stored_at (Wants all) is ∙ ap (phase_word k.epoch) code) g.ended g.counted at
 
         by : (q : Bool) → nat_lt k.epoch f.word ≡ q → (all : Bool) → k.stage ≡ Wants all →
@@ -172,45 +175,56 @@ module _ {k : Kept} {a : Stand} (g : Agrees k a) where
       abbrev stored : List Bool → Collecting
       stored counted = record old { stored = phase_word v.epoch v.code; counted = counted }
 
+      abbrev said : PhaseWord → List Entry
+      said v = more a.view.log (paused_at a.heap a.by a.view Phase (Stores (phase_word v.epoch v.code)) f v.code v.epoch)
+
       -- with a stop no mutator is counted
       view_then : b ≡ record a {
-        view = record a.view { collecting = stored (cond (is_stop v.code) (replicate a.heap.sizes.threads false) old.counted) };
+        view = record a.view {
+          work = joined_by v a.view.work;
+          collecting = stored (cond (is_stop v.code) (replicate a.heap.sizes.threads false) old.counted);
+          log = said v;
+        };
       }
       view_then =
           made.view ∙ λ t. record a {
             view = record a.view {
+              work = joined_by (phase_packed v t) a.view.work;
               collecting = stored (cond (is_stop (phase_packed v t).code) (replicate a.heap.sizes.threads false) old.counted);
+              log = more a.view.log
+                  (paused_at a.heap a.by a.view Phase (Stores (phase_word v.epoch v.code)) f (phase_packed v t).code (phase_packed v t).epoch);
             };
           }
 
-      pub stored_with : (t t' : Stage) → k.stage ≡ t → position_at t ≡ position_at t' → v.code ≡ code_at t' → (counted : List Bool) →
-          counted ≡ cond (is_stop v.code) (replicate a.heap.sizes.threads false) old.counted → length counted ≡ k.by →
-          AtStage t' (record k { epoch = v.epoch; stage = t' }) (stored counted) → Agrees (record k { epoch = v.epoch; stage = t' }) b
-      stored_with t t' is same code counted e width at =
-          agrees_with t t' v.epoch (stored counted) is same
-          (view_then ∙ ap (λ (l : List Bool). record a { view = record a.view { collecting = stored l } }) (sym e))
+      pub stored_with : (t t' : Stage) → k.stage ≡ t → position_at t ≡ position_at t' → v.code ≡ code_at t' → said v ≡ a.view.log →
+          (counted : List Bool) → counted ≡ cond (is_stop v.code) (replicate a.heap.sizes.threads false) old.counted →
+          length counted ≡ k.by → AtStage t' (record k { epoch = v.epoch; stage = t' }) (stored counted) →
+          Agrees (record k { epoch = v.epoch; stage = t' }) b
+      stored_with t t' is same code quiet counted e width at =
+          agrees_with t t' v.epoch (joined_by v a.view.work) (stored counted) is same
+          (view_then ∙ λ i. record a { view = record a.view { work = joined_by v a.view.work; collecting = stored (sym e i); log = quiet i } })
           (ap (phase_word v.epoch) code) g.ended width at
 
     pub stopped_agrees : k.stage ≡ Stops → Made a here (does K14 Phase (Stores (phase_word (k.epoch + 1) codes.StopA))) f b here' →
         Agrees (behind k Stops f.word) b
     stopped_agrees is made =
-        stored_with (record { epoch = k.epoch + 1; code = codes.StopA }) made Stops (Counts 0) is refl refl
+        stored_with (record { epoch = k.epoch + 1; code = codes.StopA }) made Stops (Counts 0) is refl refl refl
         (replicate a.heap.sizes.threads false) refl (length-replicate a.heap.sizes.threads false ∙ sym g.collector)
         (some, none_below (replicate a.heap.sizes.threads false), (at_stage g Stops is).2)
 
     pub marked_agrees : k.stage ≡ Marks → Made a here (does K14 Phase (Stores (phase_word k.epoch codes.Mark))) f b here' →
         Agrees (behind k Marks f.word) b
     marked_agrees is made =
-        stored_with (record { epoch = k.epoch; code = codes.Mark }) made Marks Marking is refl refl old.counted refl g.counted tt
+        stored_with (record { epoch = k.epoch; code = codes.Mark }) made Marks Marking is refl refl refl old.counted refl g.counted tt
 
     -- the marking was begun
     pub begun_agrees : k.stage ≡ Begins → Made a here (does K16 Pending (Stores (k.by + 2))) f b here' → Agrees (behind k Begins f.word) b
     begun_agrees is made =
-        agrees_with Begins Marks k.epoch (record old { over = false }) is refl made.view (stored_at Begins is) g.ended g.counted
+        agrees_with Begins Marks k.epoch a.view.work (record old { over = false }) is refl made.view (stored_at Begins is) g.ended g.counted
         ((at_stage g Begins is).0, refl)
 
     -- the count of open work was loaded
     pub waited_agrees : k.stage ≡ Marking → Made a here (does K16 Pending Loads) f b here' → Agrees (behind k Marking f.word) b
     waited_agrees is made =
-        agrees_with Marking Marking k.epoch (record old { over = cond (eqb f.word 0) true old.over }) is refl made.view (stored_at Marking is)
+        agrees_with Marking Marking k.epoch a.view.work (record old { over = cond (eqb f.word 0) true old.over }) is refl made.view (stored_at Marking is)
         g.ended g.counted tt

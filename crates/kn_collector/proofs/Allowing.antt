@@ -97,12 +97,12 @@ module _ {k : Kept} {a : Stand} (g : Agrees k a) where
           place = refl;
           act = refl;
           collects = collects Marks e refl;
-          may = inr (record {
+          may = inr (inl (record {
             stopped = code_is Marks e;
             counted = each_is a.view.collecting.counted h.0;
             begun = h.1;
             value = ap (λ n. phase_word n codes.Mark) (sym (epoch_is Marks e));
-          });
+          }));
         }
 
     pub may_begin : k.stage ≡ Begins → MayCount a.heap a.by a.view here Pending (Stores (k.by + 2))
@@ -118,4 +118,10 @@ module _ {k : Kept} {a : Stand} (g : Agrees k a) where
         })
 
     pub may_wait : k.stage ≡ Marking → MayCount a.heap a.by a.view here Pending Loads
-    may_wait e = inr (record { place = refl; act = refl; collects = collects Marking e refl; marks = code_is Marking e })
+    may_wait e =
+        let c = collects Marking e refl in
+        inr (record {
+          place = refl;
+          act = refl;
+          marker = inr (record { collector = c.collector; going = c.going; in_mark = code_is Marking e });
+        })

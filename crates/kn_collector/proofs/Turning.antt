@@ -1,16 +1,19 @@
 -- The turn that the step of a stage makes.
-use Rattle.std.proofs.Common.{◌≡◌, ℕ, ◌+◌, ◌≤◌, ◌↔◌, Bool, true, false, cond, eqb, Some, nat_lt, refl, sym, ap, ◌∙◌, subst}
+use Rattle.std.proofs.Common.{◌≡◌, ℕ, ◌+◌, ◌≤◌, ◌↔◌, Bool, true, false, cond, eqb, [], Some, nat_lt, refl, sym, ap, ◌∙◌, subst}
 use Rattle.std.proofs.lemmas.Bool.{eqb-true, ltb-false}
 use Rattle.std.proofs.lemmas.Option.{same_Some}
 use Rattle.kn_base.specs.declared.places.Place.{Place}
+use Rattle.kn_base.specs.declared.phase_word.PhaseWord.{PhaseWord}
+use Rattle.kn_base.specs.Words.{packed_phase}
 use Rattle.kn_base.specs.declared.kinds.Code.TheVariants as codes
 use Rattle.kn_base.specs.declared.places.Place.TheVariants.{Phase, Want, Pending, State as StateOf}
 use Rattle.kn_rule.specs.declared.positions.Position.{Position}
 use Rattle.kn_rule.specs.declared.positions.Position.TheVariants.{Calling, Out}
 use Rattle.kn_rule.specs.declared.steps.Action.TheVariants.{Loads, Stores}
 use Rattle.kn_rule.specs.declared.steps.Kind.TheVariants.{K2, K13, K14, K15, K16}
-use Rattle.kn_rule.specs.Outcomes.{wanted_at}
-use Rattle.kn_rule.specs.Steps.{Found, Step, does, logged}
+use Rattle.kn_rule.specs.Outcomes.{paused_at, wanted_at}
+use Rattle.kn_rule.specs.Steps.{Found, Step, does, logged, more}
+use Rattle.kn_rule.proofs.Decodings.{phase_packed}
 use Rattle.kn_steps.specs.Made.{Made, Stand, stand_after}
 use Rattle.kn_steps.specs.declared.turns.Turn.{Turn}
 use Rattle.kn_steps.specs.declared.turns.Turn.TheVariants.{Done, Idle, Moved}
@@ -88,6 +91,13 @@ wanted_quiet a f (Calling call) = refl
 wanted_quiet a f Out = refl
 wanted_quiet a f _ = refl
 
+-- a store of a phase that is no pause makes none
+phase_quiet : (a : Stand) (f : Found) (v : PhaseWord) → paused_at a.heap a.by a.view Phase (Stores (packed_phase v)) f v.code v.epoch ≡ [] →
+    (stand_after a (does K14 Phase (Stores (packed_phase v))) f).view.log ≡ a.view.log
+phase_quiet a f v none =
+    (λ t. more a.view.log (paused_at a.heap a.by a.view Phase (Stores (packed_phase v)) f (phase_packed v t).code (phase_packed v t).epoch))
+    ∙ ap (more a.view.log) none
+
 module _ (k : Kept) (a b : Stand) (f : Found) where
   quiet_by : (x d : Step) → Some x ≡ Some d → (stand_after a x f).view.log ≡ a.view.log → b ≡ stand_after a d f → b.view.log ≡ a.view.log
   quiet_by x d e stays view =
@@ -98,10 +108,14 @@ module _ (k : Kept) (a b : Stand) (f : Found) where
   quiet_told (Wants all) d e view = quiet_by (does K13 Want Loads) d e (wanted_quiet a f a.view.position) view
   quiet_told Ends d e view = quiet_by (does K2 (StateOf k.by) (Stores 2)) d e refl view
   quiet_told Ended d e view = absurd (cc)
-  quiet_told Stops d e view = quiet_by (does K14 Phase (Stores (phase_word (k.epoch + 1) codes.StopA))) d e refl view
+  quiet_told Stops d e view =
+      quiet_by (does K14 Phase (Stores (phase_word (k.epoch + 1) codes.StopA))) d e
+      (phase_quiet a f (record { epoch = k.epoch + 1; code = codes.StopA }) refl) view
   quiet_told (Counts i) d e view = quiet_by (does K15 (StateOf i) Loads) d e refl view
   quiet_told Begins d e view = quiet_by (does K16 Pending (Stores (k.by + 2))) d e refl view
-  quiet_told Marks d e view = quiet_by (does K14 Phase (Stores (phase_word k.epoch codes.Mark))) d e refl view
+  quiet_told Marks d e view =
+      quiet_by (does K14 Phase (Stores (phase_word k.epoch codes.Mark))) d e
+      (phase_quiet a f (record { epoch = k.epoch; code = codes.Mark }) refl) view
   quiet_told Marking d e view = quiet_by (does K16 Pending Loads) d e refl view
 
 module _ {T : Type 0} (stand : T → Stand) (here : T → ℕ → Bool) (did : T → Step → Found → T → Type 0) (k : Kept) (s s' : T) where

@@ -48,7 +48,7 @@ IsUnread built (ends.Script n why) left left' faults faults' = IsRefused built n
 IsUnread built ends.Memory left left' faults faults' = faults' ≡ faults
 IsUnread built _ left left' faults faults' = ⊥
 
--- what the run of a trace leaves: the turns were spent with some thread not ended, or every thread has ended; the history is
+-- what the run of a trace leaves: the turns were spent with some actor not ended, or every actor has ended; the history is
 -- legal, and each thread's log answers the first of its calls
 pub record IsTraceRun (script : Scripted) (is_spent : Bool) (world : World) : Type 0 where
   pub is_run : IsRunOf script is_spent world

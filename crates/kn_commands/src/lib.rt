@@ -2,8 +2,8 @@
 //!
 //! This crate owns how a run of a script ends (`specs/Ends.antt`): what was read, what is printed, and
 //! the status. `run_words` does what the program's words ask for. `run_program` makes the words and the
-//! devices, and calls it; `exit_of` gives the exit number. The run itself is `trace` of `kn_trace`;
-//! nothing is kept here between two calls.
+//! devices, and calls it; `exit_of` gives the exit number. The runs themselves are `trace` of
+//! `kn_trace` and `trace_core` of `kn_cms_trace`; nothing is kept here between two calls.
 #![tactic(auto)]
 
 mod cms;

@@ -12,7 +12,7 @@ pub enum Status {
     Usage,
     /// The bytes are the text of no script: the first bad line, and the first reason that it meets.
     Script { line: u32, why: Why },
-    /// The turns were used up with some thread not ended.
+    /// The turns were used up with some actor not ended.
     Spent,
     /// The source failed.
     ReadFault,

@@ -20,8 +20,8 @@ use kn_script::{Fault, Script, parse, state_laws};
 use kn_trace::{Traced, trace};
 use std::alloc::{AllocError, Global};
 
-/// How a trace ended, and the board of its run. It is there exactly with `Ok`, `Spent` and
-/// `WriteFault`.
+/// How a form of the program ended, and the board of its run. Of a trace it is there exactly with
+/// `Ok`, `Spent` and `WriteFault`.
 #[derive(Drop)]
 pub struct TraceEnd {
     pub status: Status,

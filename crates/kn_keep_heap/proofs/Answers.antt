@@ -27,6 +27,7 @@ use Rattle.kn_rule.specs.Steps.{entry_of}
 use Rattle.kn_rule.specs.HistoryClauses.{Told, Formed, IsRightCall, under_way, births_under_way}
 use Rattle.kn_rule.specs.ObjectClauses.{IsCleared, Localed, ReadRight}
 use Rattle.kn_rule.specs.CallerClauses.{state_number, IsSince, IsIn, IsBusy, IsInOrLeaving, IsDue}
+use Rattle.kn_rule.specs.MarkClauses.{Phased}
 use Rattle.kn_rule.specs.Rule.{Represents, RuleOf}
 use Rattle.kn_keep_heap.specs.Answered.{IsBehindAnswer}
 use Rattle.kn_keep_heap.proofs.Positions.{formed_at, at_end_at, stated_at, owners_at, cleared_at, apart_at, taken_in_at, told_answered}
@@ -141,12 +142,13 @@ module _ (z : Ground) (g : Graph) (v : Views) (h : List Entry) (told : Told z g 
 
   -- the rule holds after the answer where the other clauses do, and the locals and what was read are right
   pub answered : (g' : Graph) (word : Place → ℕ) (page : ℕ → Option FrameView) → Represents z g' word page v →
-      MayAnswer z by call g reply address g' → (q : Position) → IsBehindAnswer q → v.taken by ≡ None → (local : ℕ → ℕ → ℕ) →
+      Phased z g'.paused g'.born (shapes g') word (λ c. (v.rest c).work) → MayAnswer z by call g reply address g' → (q : Position) →
+      IsBehindAnswer q → v.taken by ≡ None → (local : ℕ → ℕ → ℕ) →
       ((c : ℕ) → by ≢ c → local c ≡ v.local c) →
       Localed z (shapes g') g'.local (λ c i. word (Local c i)) (upd v.position by q) local →
       ReadRight z (shapes g') g'.local (upd v.position by q) (upd v.header by None) →
       RuleOf z (graph_now g') word page (views_answered q local) (h ++ entry_now ∷ [])
-  answered g' word page a may q b none local same localed read =
+  answered g' word page a phased may q b none local same localed read =
       let busy : IsBusy (v.position by) = subst (λ p. IsBusy p) (sym is) tt in
       let calls = ap (under_way q) (a.polling.untargeted by less busy) ∙ calls_behind q b in
       let epoch = pauses (phase_of (v.polled by)) in
@@ -181,4 +183,5 @@ module _ (z : Ground) (g : Graph) (v : Views) (h : List Entry) (told : Told z g 
           placed = a.placed;
           taken_in = taken_in_at z v.position by q v.own v.taken (λ c. (v.rest c).sweep) a.taken_in none;
         };
+        phased = phased;
       }

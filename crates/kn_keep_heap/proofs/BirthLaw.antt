@@ -7,7 +7,7 @@ use Rattle.std.proofs.lemmas.Bool.{cases_lt}
 use Rattle.std.proofs.lemmas.Bool.Decides.{leb_tells}
 use Rattle.kn_base.specs.declared.heap.Sizes.{Sizes}
 use Rattle.kn_base.specs.declared.places.Place.{Place}
-use Rattle.kn_base.specs.declared.places.Place.TheVariants.{Phase, Local, Global, Node, Frame, Side, Body}
+use Rattle.kn_base.specs.declared.places.Place.TheVariants.{Phase, RootSet, Local, Global, Node, Frame, Side, Body}
 use Rattle.kn_base.specs.declared.numbers.Span.{Span}
 use Rattle.kn_base.specs.declared.kinds.Colour.TheVariants as colours
 use Rattle.kn_base.specs.declared.kinds.Code.{Code}
@@ -47,6 +47,7 @@ use Rattle.kn_rule.specs.Allowed.{MayBirth}
 use Rattle.kn_rule.specs.Moves.{stepped_by}
 use Rattle.kn_rule.specs.ObjectClauses.{IsCleared, IsAskedBy, Headed, Fielded, ReadRight, Localed, Globaled, Named, Apart, IsMarked, IsHeadedBy}
 use Rattle.kn_rule.specs.FrameClauses.{Housed, Handed, Placed, IsExtraCell, IsFilled, IsClassAsked}
+use Rattle.kn_rule.specs.MarkClauses.{Phased}
 use Rattle.kn_rule.specs.Rule.{Represents, Rule, RuleOf}
 use Rattle.kn_rule.proofs.FrameSpans.{is_span, one_frame}
 use Rattle.kn_keep_heap.specs.Answered.{staying, Stays}
@@ -56,9 +57,10 @@ use Rattle.kn_keep_heap.proofs.Locals.{local_read}
 use Rattle.kn_keep_heap.proofs.Positions.{read_at}
 use Rattle.kn_keep_heap.proofs.Values.{below_sixteen}
 use Rattle.kn_keep_heap.proofs.Answers.{follows, epoch_call, answered}
-use Rattle.kn_keep_heap.proofs.ReadLaws.{ranges, few, snd, quiet}
+use Rattle.kn_keep_heap.proofs.Phases.{phased_out}
+use Rattle.kn_keep_heap.proofs.ReadLaws.{ranges, few, snd, calls_out, quiet}
 use Rattle.kn_keep_heap.proofs.NextWord.{request_two}
-use Rattle.kn_keep_heap.proofs.Births.{headed_born, fielded_born, localed_born, globaled_born, named_born, read_born, apart_born, cleared_born}
+use Rattle.kn_keep_heap.proofs.Births.{headed_born, rests_born, fielded_born, localed_born, globaled_born, named_born, read_born, apart_born, cleared_born}
 use Rattle.kn_keep_heap.proofs.Births.{taken_in_born, housed_born, placed_born, handed_born}
 
 -- a birth is an answer of its call, and its local is one of the sixteen
@@ -352,7 +354,8 @@ module _ (z : Ground) (good : IsGoodGround z) (s : State) (by : ℕ) (less : by 
       let after : Graph = with_entered g' by (epoch_in (s.caller by)) in
       let values : ℕ → ℕ → Option ℕ = upd g.local by (upd (g.local by) may.birth.0 (Some g.born)) in
       let local : ℕ → ℕ → ℕ = upd V.local by (upd (V.local by) may.birth.0 at) in
-      let shape : ℕ → Shape = upd (shapes g) g.born new in (
+      let shape : ℕ → Shape = upd (shapes g) g.born new in
+      let out = calls_out z s by less g rule may.call may.is_call in (
         after,
         subst (λ W. RuleOf z after (put s.word (Side at) mark) s.page W (s.history ++ entry_of by
             (epoch_in (s.caller by)) may.call replies.Ok at ∷ []))
@@ -360,6 +363,10 @@ module _ (z : Ground) (good : IsGoodGround z) (s : State) (by : ℕ) (less : by 
             (taken_put s.caller by v)))
             (answered z g V' s.history rule.told rule.formed by less may.call may.is_call now replies.Ok at g'
             (put s.word (Side at) mark) s.page stands
+            (subst (λ (h : ℕ → Shape). Phased z g.paused (g.born + 1) h (put s.word (Side at) mark) (λ c. (V.rest c).work)) sh
+            (phased_out z g.paused (g.born + 1) shape (put s.word (Side at) mark) (λ c. (V.rest c).work) out
+            (rests_born z g S new refl clear_of side (λ j. s.word (RootSet j)) (λ c. (V.rest c).work) (epoch_in (s.caller by)) now refl
+            (rule.phased.at_rest out))))
             answer (Writing may.birth.0 at 0) small (upd_here V.taken by None) local
             (λ c ne. upd_else V.local by (upd (V.local by) may.birth.0 at) c ne)
             (subst (λ (h : ℕ → Shape). Localed z h values (λ c i. s.word (Local c i)) (upd V.position by (Writing may.birth.0 at 0)) local) sh

@@ -1,5 +1,6 @@
 -- A birth: what the clauses say of the graph with one object more, which has the words of a cell that was taken.
-use Rattle.std.proofs.Common.{◌≡◌, ◌≢◌, ℕ, ◌+◌, ◌<◌, ◌⊎◌, inl, inr, false, List, Option, Some, None, refl, sym, subst, ap}
+use Rattle.std.proofs.Common.{◌≡◌, ◌≢◌, ℕ, ◌+◌, ◌<◌, ◌⊎◌, ◌*◌, inl, inr, Bool, true, false, List, Option, Some, None}
+use Rattle.std.proofs.Common.{refl, sym, subst, ap}
 use Rattle.std.proofs.Common.{◌∙◌, arith}
 use Rattle.kn_base.specs.declared.numbers.Span.{Span}
 use Rattle.kn_base.specs.declared.kinds.FrameKind.TheVariants as frames
@@ -17,6 +18,7 @@ use Rattle.kn_layout.specs.declared.layouts.FieldKind.TheVariants.{Ref as of_ref
 use Rattle.kn_graph.specs.Ground.{Ground, IsGoodGround}
 use Rattle.kn_graph.specs.Graph.{Graph, Shape, shapes, pointers, numbers, Lives, words_of, field_kind}
 use Rattle.kn_graph.specs.Sound.{IsSound, Alive, WasBorn}
+use Rattle.kn_marking.specs.declared.work.Work.{Work}
 use Rattle.kn_rule.specs.declared.positions.Position.{Position}
 use Rattle.kn_rule.specs.declared.positions.Position.TheVariants.{Calling}
 use Rattle.kn_rule.specs.declared.parts.Taken.{Taken}
@@ -26,7 +28,8 @@ use Rattle.kn_rule.specs.Views.{Open, Sweep}
 use Rattle.kn_rule.specs.Requests.{IsCellOf, field_of}
 use Rattle.kn_rule.specs.Steps.{callers}
 use Rattle.kn_rule.specs.ObjectClauses.{address_of, IsMarked, IsHeadedBy, Headed, Fielded, IsReadFor, IsReadAt, ReadRight, IsCleared, Cleared}
-use Rattle.kn_rule.specs.ObjectClauses.{Localed, Globaled, name_word, Named, Apart}
+use Rattle.kn_rule.specs.ObjectClauses.{Localed, Globaled, name_word, Named, NamesCondemned, Apart}
+use Rattle.kn_rule.specs.MarkClauses.{IsBlackOf, Rests}
 use Rattle.kn_rule.specs.FrameClauses.{IsExtraCell, IsFilled, IsTakenWord, AreTheFree, Housed, Handed, Placed, TakenIn}
 use Rattle.kn_rule.proofs.FrameSpans.{one_frame}
 use Rattle.kn_keep_heap.proofs.Fields.{not_both, first_word, kind_below}
@@ -81,6 +84,22 @@ module _ (z : Ground) (g : Graph) (s : IsSound z g) (new : Shape) (kept : new.re
         let ne : new.address ≢ a = λ e. f g.born new_lives (ap (λ (o : Shape). o.address) here ∙ e) in
         upd_else side new.address mark a ne
         ∙ r.blank a w (λ n l e. f n (lives_on n l) (ap (λ (o : Shape). o.address) (old n l.0) ∙ e));
+  }
+
+  -- the mark of the new object is black, of the last pause
+  pub rests_born : (side set : ℕ → ℕ) (work : ℕ → Work) (epoch : ℕ) → epoch ≡ g.paused → new.condemned ≡ false →
+      Rests z g.paused g.born (shapes g) side set work → Rests z g.paused (g.born + 1) more (upd side new.address (4 * epoch + 3)) set work
+  rests_born side set work epoch now spared r = record {
+    marks = each_live (λ n o. IsBlackOf g.paused o.condemned (upd side new.address (4 * epoch + 3) o.address))
+        (record {
+          epoch = epoch;
+          last = omega (arith, now);
+          packs = upd_here side new.address (4 * epoch + 3);
+          aged = (λ e. let h : Bool.false ≡ true = sym spared ∙ e in absurd (cc), λ l. absurd (omega (arith, now, l)));
+        })
+        (λ n l. subst (λ x. IsBlackOf g.paused (shapes g n).condemned x)
+        (sym (upd_else side new.address (4 * epoch + 3) (shapes g n).address (other_first n l))) (r.marks n l));
+    shares = r.shares;
   }
 
   module _ (body : ℕ → ℕ) (r : Fielded z g.born (shapes g) (pointers g) (numbers g) body)
@@ -141,12 +160,18 @@ module _ (z : Ground) (g : Graph) (s : IsSound z g) (new : Shape) (kept : new.re
   name_kept kind (Some n) count b =
       ap (λ (o : Shape). packed_node (record { kind = kind; count = count; addr = o.address })) (old n b)
 
+  condemned_kept : (x : Option ℕ) → WasBorn g.born x → NamesCondemned (shapes g) x → NamesCondemned more x
+  condemned_kept None b c = c
+  condemned_kept (Some n) b c = ap (λ (o : Shape). o.condemned) (old n b) ∙ c
+
   pub named_born : (word : ℕ → ℕ) → Named z.sizes (shapes g) g.stable g.weak g.back g.count word →
       Named z.sizes more g.stable g.weak g.back g.count word
   named_born word r = record {
     stables = λ h l. r.stables h l ∙ sym (name_kept nodes.Stable (g.stable h) 0 (born_of (g.stable h) (s.roots.stables h)));
     weaks = λ w l ne. r.weaks w l ne ∙ sym (name_kept nodes.Weak (g.weak w) 0 (s.names.weaks w));
     backs = λ b l ne. r.backs b l ne ∙ sym (name_kept nodes.Back (g.back b) (g.count b) (s.names.backs b));
+    cleared_weaks = λ w l e. condemned_kept (g.weak w) (s.names.weaks w) (r.cleared_weaks w l e);
+    cleared_backs = λ b l e. condemned_kept (g.back b) (s.names.backs b) (r.cleared_backs b l e);
   }
 
   read_for : (c : ℕ) (t : Option (ℕ × ℕ × FieldKind)) (h : Option ℕ) → IsReadFor (shapes g) (g.local c) t h → IsReadFor more (g.local c) t h

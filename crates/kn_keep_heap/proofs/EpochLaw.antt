@@ -197,4 +197,5 @@ module _ (z : Ground) (s : State) (by : ℕ) (less : by < z.sizes.threads) (g : 
             placed = rule.stands.placed;
             taken_in = taken_in_at z V.position by Between V.own V.taken (λ c. (V.rest c).sweep) rule.stands.taken_in none;
           };
+          phased = rule.phased;
         }))

@@ -35,7 +35,8 @@ use Rattle.kn_rule.proofs.FrameSpans.{one_frame, frame_at_is}
 use Rattle.kn_keep_heap.proofs.Changed.{some_is}
 use Rattle.kn_keep_heap.specs.Answered.{staying}
 use Rattle.kn_keep_heap.proofs.Parts.{views_moved, local_same, own_put, taken_put, position_same, header_same, log_same}
-use Rattle.kn_keep_heap.proofs.ReadLaws.{few, snd}
+use Rattle.kn_keep_heap.proofs.Phases.{phased_out}
+use Rattle.kn_keep_heap.proofs.ReadLaws.{calls_out, few, snd}
 use Rattle.kn_base.proofs.Covers.{covers-without}
 use Rattle.kn_keep_heap.proofs.FreeSpans.{apart_if}
 use Rattle.kn_keep_heap.proofs.CellWords.{headed_beside, fielded_beside, cleared_more}
@@ -267,6 +268,8 @@ module _ (z : Ground) (good : IsGoodGround z) (s : State) (by : ℕ) (less : by 
                   placed = rule.stands.placed;
                   taken_in = taken_in_new;
                 };
+                phased = phased_out z g.paused g.born (shapes g) (put s.word (Body b) w) (λ c. (V.rest c).work)
+                    (calls_out z s by less g rule call is) (rule.phased.at_rest (calls_out z s by less g rule call is));
               }),
         )
 

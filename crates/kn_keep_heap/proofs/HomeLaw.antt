@@ -189,6 +189,7 @@ module _ (z : Ground) (s : State) (by : ℕ) (less : by < z.sizes.threads) (g : 
           taken_in = taken_in_moved z V.own by k V.taken none None V.position (λ c. (V.rest c).sweep) (λ c. (V.rest c).sweep)
               (λ c ne. refl) rule.stands.taken_in;
         };
+        phased = record { in_mark = λ e. let m = rule.phased.in_mark e in record { marking = m.marking; headers = m.headers }; at_rest = rule.phased.at_rest };
       })
 
   abbrev gone : View

@@ -123,6 +123,7 @@ module _ (z : Ground) (s : State) (by : ℕ) (near : by < callers z.sizes) (g : 
           placed = rule.stands.placed;
           taken_in = taken_in_at z V.position by p V.own V.taken (λ c. (V.rest c).sweep) rule.stands.taken_in none;
         };
+        phased = record { in_mark = λ e. let m = rule.phased.in_mark e in record { marking = m.marking; headers = m.headers }; at_rest = rule.phased.at_rest };
       })
     where
       busy_in : (p : Position) → IsBusy p → IsIn p

@@ -6,6 +6,10 @@ pub mod FreeSpans
 pub mod Owns
 pub mod Positions
 pub mod Wants
+pub mod Phases
+pub mod Works
+pub mod ByAddress
+pub mod CellLimit
 pub mod Answers
 pub mod Values
 pub mod Fields

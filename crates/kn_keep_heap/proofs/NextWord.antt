@@ -20,7 +20,8 @@ use Rattle.kn_rule.specs.ObjectClauses.{IsCleared}
 use Rattle.kn_rule.specs.FrameClauses.{IsFilled}
 use Rattle.kn_rule.specs.Rule.{Rule, RuleOf}
 use Rattle.kn_keep_heap.proofs.Parts.{views_moved, local_same, own_same, taken_put, position_same, header_same, log_same}
-use Rattle.kn_keep_heap.proofs.ReadLaws.{few, snd}
+use Rattle.kn_keep_heap.proofs.Phases.{phased_out}
+use Rattle.kn_keep_heap.proofs.ReadLaws.{calls_out, few, snd}
 use Rattle.kn_keep_heap.proofs.CellWords.{headed_beside, fielded_beside, cleared_more, apart_more, handed_more, taken_in_more}
 
 asked_two : (x : Option (ℕ × ℕ × ℕ)) (n : ℕ) → birth_words x ≡ Some n → 2 ≤ n
@@ -89,5 +90,7 @@ module _ (z : Ground) (s : State) (by : ℕ) (less : by < z.sizes.threads) (g : 
                 taken_in = taken_in_more z g.born (shapes g) V.position V.taken by t has (t.cleared + 1) (omega arith) V.own
                     (λ c. (V.rest c).sweep) rule.stands.taken_in;
               };
+              phased = phased_out z g.paused g.born (shapes g) (put s.word (Body b) w) (λ c. (V.rest c).work) (calls_out z s by less g rule call is)
+                  (rule.phased.at_rest (calls_out z s by less g rule call is));
             }),
       )

@@ -31,6 +31,8 @@ use Rattle.kn_rule.specs.Views.{View, Views, State, views_of, local_of}
 use Rattle.kn_rule.specs.Requests.{field_of}
 use Rattle.kn_rule.specs.Steps.{Found, does, quietly, epoch_in}
 use Rattle.kn_rule.specs.Outcomes.{position_of, view_answer, begin_with, poll_run, poll_at, with_call, epoch_told, waits_on, enters_for, waits_at}
+use Rattle.kn_rule.specs.Outcomes.{stays_out}
+use Rattle.kn_rule.specs.MarkSteps.{joined_by}
 use Rattle.kn_rule.specs.Allowed.{MayBegin, MayNext, MayEnterFor, MayPollAt, MayGo}
 use Rattle.kn_rule.specs.Moves.{stepped_by}
 use Rattle.kn_rule.specs.HistoryClauses.{under_way, births_under_way, IsRightCall, Told}
@@ -50,6 +52,7 @@ use Rattle.kn_keep_heap.proofs.Idle.{idle_calls, idle_births, not_writing, not_a
 use Rattle.kn_keep_heap.proofs.Values.{same_told, positive, below_sixteen}
 use Rattle.kn_keep_heap.proofs.ReadLaws.{snd}
 use Rattle.kn_keep_heap.proofs.ThenAnswer.{then_answer, views_kept}
+use Rattle.kn_keep_heap.proofs.Works.{joined_rule}
 
 -- a run phase is what was polled there
 run_since : (e : ℕ) (c : Code) → is_run c ≡ true → IsSince (record { epoch = e; code = c }) (record { epoch = e; code = c })
@@ -242,6 +245,7 @@ module _ (z : Ground) (s : State) (by : ℕ) (less : by < z.sizes.threads) (g : 
               placed = rule.stands.placed;
               taken_in = taken_in_at z V.position by p V.own V.taken (λ c. (V.rest c).sweep) rule.stands.taken_in no_cell;
             };
+            phased = rule.phased;
           }))
 
     -- it goes on waiting
@@ -313,6 +317,14 @@ module _ (z : Ground) (s : State) (by : ℕ) (less : by < z.sizes.threads) (g : 
           (sym (views_kept z s by less g (s.caller by) refl refl refl refl refl refl refl)) rule),
     )
 
+    -- one that finds Mark keeps its epoch
+    stays_away : (next : Option Call) → Rule z (stepped_by s by (does K1 Phase (LoadsFor next)) f (stays_out z by (s.caller by) Phase (LoadsFor next) f))
+    stays_away next = (
+      g,
+      subst (λ x. RuleOf z g x s.page (views_of (upd s.caller by (record (s.caller by) { work = joined_by (phase_of f.word) (s.caller by).work }))) s.history)
+          (sym (put_same s.word Phase f.word (sym found))) (joined_rule z s by g rule (omega (arith, less)) f.word found),
+    )
+
     -- a mutator that is in, with nothing under way, leaves; its state stays 1
     left : (next : Option Call) (q : Position) → (s.caller by).position ≡ q → IsIdle q → IsIn q → state_number q ≡ 1 →
         Rule z (stepped_by s by (does K1 Phase (LoadsFor next)) f (quietly (record (s.caller by) { position = Leaving })))
@@ -365,7 +377,7 @@ module _ (z : Ground) (s : State) (by : ℕ) (less : by < z.sizes.threads) (g : 
         is_run (phase_of f.word).code ≡ b →
         Rule z (stepped_by s by (does K1 Phase (LoadsFor next)) f (poll_at z by (s.caller by) Phase (LoadsFor next) f Entering b next))
     entering_by next at m true run = entering_for next at run (s.caller by).target refl m
-    entering_by next at m false run = unmoved next
+    entering_by next at m false run = stays_away next
 
     between_by : (next : Option Call) → (s.caller by).position ≡ Between → MayPollAt z by (s.caller by) here Between next → (b : Bool) →
         is_run (phase_of f.word).code ≡ b →
@@ -395,7 +407,7 @@ module _ (z : Ground) (s : State) (by : ℕ) (less : by < z.sizes.threads) (g : 
     pub polled_kept : (next : Option Call) (q : Position) → (s.caller by).position ≡ q → MayPollAt z by (s.caller by) here q next →
         Rule z (stepped_by s by (does K1 Phase (LoadsFor next)) f (poll_at z by (s.caller by) Phase (LoadsFor next) f q
         (is_run (phase_of f.word).code) next))
-    polled_kept next Out at m = unmoved next
+    polled_kept next Out at m = stays_away next
     polled_kept next Entering at m = entering_by next at m _ refl
     polled_kept next Between at m = between_by next at m _ refl
     polled_kept next Waiting at m = waiting_by next at _ refl (s.caller by).target refl

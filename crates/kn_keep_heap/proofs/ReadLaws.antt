@@ -1,9 +1,10 @@
 -- The laws of loads: a global, or a header.
-use Rattle.std.proofs.Common.{◌≡◌, ℕ, ◌<◌, Bool, true, false, [], ◌∷◌, ◌++◌, length, Option, Some, None, slice_set, refl, sym, subst, ap}
+use Rattle.std.proofs.Common.{◌≡◌, ◌≢◌, ℕ, ◌<◌, Bool, true, false, [], ◌∷◌, ◌++◌, length, Option, Some, None, slice_set}
+use Rattle.std.proofs.Common.{refl, sym, subst, ap}
 use Rattle.std.proofs.Common.{◌∙◌}
 use Rattle.std.proofs.Common.{arith, length-set}
 use Rattle.kn_base.specs.declared.places.Place.{Place}
-use Rattle.kn_base.specs.declared.places.Place.TheVariants.{Local, Global, Body}
+use Rattle.kn_base.specs.declared.places.Place.TheVariants.{Phase, Local, Global, Body}
 use Rattle.kn_base.specs.declared.header_word.HeaderWord.{HeaderWord}
 use Rattle.kn_base.specs.Words.{packed_header}
 use Rattle.kn_base.specs.Functions.{upd}
@@ -22,7 +23,7 @@ use Rattle.kn_rule.specs.declared.steps.Kind.TheVariants.{K4, K6}
 use Rattle.kn_rule.specs.declared.steps.Action.TheVariants.{Loads}
 use Rattle.kn_rule.specs.declared.positions.Position.{Position}
 use Rattle.kn_rule.specs.declared.positions.Position.TheVariants.{Between, Calling, Writing}
-use Rattle.kn_rule.specs.Decoding.{header_of}
+use Rattle.kn_rule.specs.Decoding.{header_of, phase_of}
 use Rattle.kn_rule.specs.Places.{put}
 use Rattle.kn_rule.specs.Views.{View, Views, State, views_of, local_of}
 use Rattle.kn_rule.specs.Requests.{words_asked, field_of, told_kind}
@@ -34,6 +35,8 @@ use Rattle.kn_rule.specs.HistoryClauses.{IsRightCall}
 use Rattle.kn_rule.specs.ObjectClauses.{IsWriting, IsReadAt, IsReadFor, ReadRight, address_of}
 use Rattle.kn_rule.specs.Rule.{Rule, RuleOf}
 use Rattle.kn_rule.proofs.Decodings.{header_packed}
+use Rattle.kn_base.specs.declared.kinds.Code.TheVariants as codes
+use Rattle.kn_rule.specs.CallerClauses.{IsInOrLeaving}
 use Rattle.kn_keep_heap.specs.Answered.{staying, Stays}
 use Rattle.kn_keep_heap.proofs.Parts.{views_moved, local_put, local_same, own_same, taken_same, position_same, header_put, log_same}
 use Rattle.kn_keep_heap.proofs.Parts.{views_answer}
@@ -41,6 +44,7 @@ use Rattle.kn_keep_heap.proofs.Loads.{put_same}
 use Rattle.kn_keep_heap.proofs.Locals.{local_read, locals_moved}
 use Rattle.kn_keep_heap.proofs.Positions.{no_cell, read_at}
 use Rattle.kn_keep_heap.proofs.Values.{ref_told, names, lives}
+use Rattle.kn_keep_heap.proofs.Phases.{not_in_mark}
 use Rattle.kn_keep_heap.proofs.Answers.{sound, epoch_call, answered}
 
 module _ (z : Ground) (s : State) (by : ℕ) (less : by < z.sizes.threads) where
@@ -103,6 +107,11 @@ module _ (z : Ground) (s : State) (by : ℕ) (less : by < z.sizes.threads) where
     pub quiet : (call : Call) → (s.caller by).position ≡ Calling call → (j : ℕ) → ¬ IsWriting (s.caller by).position j
     quiet call is j h = subst (λ p. IsWriting p j) is h
 
+    -- a call is under way in no Mark
+    pub calls_out : (call : Call) → (s.caller by).position ≡ Calling call → (phase_of (s.word Phase)).code ≢ codes.Mark
+    calls_out call is = not_in_mark z (s.word Phase) V.position (λ c. (V.rest c).collecting.counted) rule.stands.stopped by less
+        (subst (λ p. IsInOrLeaving p) (sym is) tt)
+
     -- what was read stays right where no local of the graph changes
     pub read_plain : (q : Position) → IsReadAt (shapes g) (g.local by) q None →
         ReadRight z (shapes g) g.local (upd V.position by q) (upd V.header by None)
@@ -124,7 +133,7 @@ module _ (z : Ground) (s : State) (by : ℕ) (less : by < z.sizes.threads) where
         subst (λ y. RuleOf z after y s.page (views_of (upd s.caller by (read_view call reply r w))) more) (sym kept)
         (subst (λ W. RuleOf z after s.word s.page W more) (sym (views_read call reply r w near))
         (answered z g V s.history rule.told rule.formed by less call is (epoch_call z g s.word s.page V s.history rule by less call is) reply 0
-        (with_local g by r x) s.word s.page rule.stands may (Writing r w 0) small
+        (with_local g by r x) s.word s.page rule.stands rule.phased may (Writing r w 0) small
         (no_cell z V.position by (Writing r w 0) call reply 0 0 is g.born (shapes g) V.taken rule.stands.apart few none)
         (upd V.local by (upd (V.local by) r w)) (λ c ne. upd_else V.local by (upd (V.local by) r w) c ne)
         (local_read z (shapes g) g.local (λ c i. s.word (Local c i)) V.position V.local rule.localed by r w x value (quiet call is))
@@ -141,7 +150,7 @@ module _ (z : Ground) (s : State) (by : ℕ) (less : by < z.sizes.threads) where
         subst (λ y. RuleOf z after y s.page (views_of (upd s.caller by (plain_view call reply))) more) (sym kept)
         (subst (λ W. RuleOf z after s.word s.page W more) (sym (views_plain call reply))
         (answered z g V s.history rule.told rule.formed by less call is (epoch_call z g s.word s.page V s.history rule by less call is) reply 0
-        g s.word s.page rule.stands may Between tt none V.local (λ c ne. refl)
+        g s.word s.page rule.stands rule.phased may Between tt none V.local (λ c ne. refl)
         (locals_moved z (shapes g) g.local (λ c i. s.word (Local c i)) V.position V.local rule.localed by Between (λ i _. quiet call is i) tt)
         (read_plain Between tt)))
 
@@ -213,6 +222,7 @@ module _ (z : Ground) (s : State) (by : ℕ) (less : by < z.sizes.threads) where
                     };
                     localed = rule.localed;
                     stands = rule.stands;
+                    phased = rule.phased;
                   })),
             )
 

@@ -29,6 +29,8 @@ use Rattle.kn_rule.specs.declared.positions.Position.{Position}
 use Rattle.kn_rule.specs.Decoding.{frame_of, PacksFrame}
 use Rattle.kn_rule.specs.FrameSpans.{frame_span}
 use Rattle.kn_rule.specs.Places.{put}
+use Rattle.kn_marking.specs.declared.work.Work.{Work}
+use Rattle.kn_rule.specs.MarkClauses.{Phased}
 use Rattle.kn_rule.specs.Views.{rest_of, Rest, Collecting, View, Views, State, Open, views_of}
 use Rattle.kn_rule.specs.Requests.{class_for, class_where, is_usable, is_usable_as, owned_word, owned_as, InArea, IsCellOf}
 use Rattle.kn_rule.specs.Steps.{Found, does, logged, more, entry_of, epoch_in, callers}
@@ -233,6 +235,9 @@ module _ (z : Ground) (good : IsGoodGround z) (s : State) (by : ℕ) (less : by 
       collecting_stays : ◌≡◌ {A = ℕ → Collecting} (λ c. (V.rest c).collecting) (λ c. (rest' c).collecting)
       collecting_stays = sym (part_same (λ (x : Rest). x.collecting) V.rest by (rest_of claim_view) refl)
 
+      work_stays : ◌≡◌ {A = ℕ → Work} (λ c. (V.rest c).work) (λ c. (rest' c).work)
+      work_stays = sym (part_same (λ (x : Rest). x.work) V.rest by (rest_of claim_view) refl)
+
       won_rule : RuleOf z g (put s.word (Frame k) new_word) (upd s.page k None) (views_of (upd s.caller by claim_view)) s.history
       won_rule =
           let v : View = claim_view in
@@ -293,6 +298,8 @@ module _ (z : Ground) (good : IsGoodGround z) (s : State) (by : ℕ) (less : by 
               taken_in = taken_in_moved z V.own by k V.taken may.none_taken (Some new_open) V.position (λ c. (V.rest c).sweep) (λ c. (rest' c).sweep)
                   (λ c ne. ap (λ (x : Rest). x.sweep) (upd_else V.rest by (rest_of claim_view) c ne)) rule.stands.taken_in;
             };
+            phased = subst (λ (x : ℕ → Work). Phased z g.paused g.born (shapes g) (put s.word (Frame k) new_word) x) work_stays
+                record { in_mark = λ e. let m = rule.phased.in_mark e in record { marking = m.marking; headers = m.headers }; at_rest = rule.phased.at_rest };
           })
 
     -- what a claim leaves, by whether it is won

@@ -26,12 +26,14 @@ use Rattle.kn_rule.specs.Allowed.{MaySetAt}
 use Rattle.kn_rule.specs.Moves.{stepped_by}
 use Rattle.kn_rule.specs.ObjectClauses.{Headed, ReadRight, Fielded, Localed, Globaled, Named, Apart, address_of}
 use Rattle.kn_rule.specs.FrameClauses.{Housed, Handed, Placed, IsFilled}
+use Rattle.kn_rule.specs.MarkClauses.{Phased}
 use Rattle.kn_rule.specs.Rule.{Represents, Rule, RuleOf}
 use Rattle.kn_keep_heap.proofs.Locals.{locals_moved}
 use Rattle.kn_keep_heap.proofs.Values.{below_sixteen}
 use Rattle.kn_keep_heap.proofs.Fields.{headed_kept, cleared_kept, ref_written, int_written}
+use Rattle.kn_keep_heap.proofs.Phases.{phased_out}
 use Rattle.kn_keep_heap.proofs.Answers.{epoch_call, answered}
-use Rattle.kn_keep_heap.proofs.ReadLaws.{plain_view, views_plain, ranges, snd, cell_none, quiet, read_plain}
+use Rattle.kn_keep_heap.proofs.ReadLaws.{plain_view, views_plain, ranges, snd, cell_none, calls_out, quiet, read_plain}
 use Rattle.kn_keep_heap.proofs.FieldLaws.{object_named, object_alive, kind_is, place_is, set_answer, put_answer}
 
 module _ (z : Ground) (s : State) (by : ℕ) (less : by < z.sizes.threads) (here : ℕ → Bool) (g : Graph)
@@ -52,6 +54,7 @@ module _ (z : Ground) (s : State) (by : ℕ) (less : by < z.sizes.threads) (here
         let body : ℕ → ℕ = λ a. s.word (Body a) in
         let side : ℕ → ℕ = λ a. s.word (Side a) in
         let none = cell_none z s by less g rule call is asks in
+        let out = calls_out z s by less g rule call is in
         let S = snd z s by less g rule in
         let locals = locals_moved z (shapes g) g.local (λ c k. s.word (Local c k)) V.position V.local rule.localed by Between
         (λ k _. quiet z s by less g rule call is k) tt in
@@ -88,7 +91,10 @@ module _ (z : Ground) (s : State) (by : ℕ) (less : by < z.sizes.threads) (here
               (subst (λ W. RuleOf z after (put s.word (Body at) w) s.page W more) (sym (views_plain z s by less call replies.Ok))
               (answered z g V s.history rule.told rule.formed by less call is
               (epoch_call z g s.word s.page V s.history rule by less call is) replies.Ok 0
-              g' (put s.word (Body at) w) s.page stands may Between tt none V.local (λ c ne. refl)
+              g' (put s.word (Body at) w) s.page stands
+              (subst (λ (h : ℕ → Shape). Phased z g.paused g.born h (put s.word (Body at) w) (λ c. (V.rest c).work)) sh
+              (phased_out z g.paused g.born (shapes g) (put s.word (Body at) w) (λ c. (V.rest c).work) out
+              (rule.phased.at_rest out))) may Between tt none V.local (λ c ne. refl)
               (subst (λ (h : ℕ → Shape). Localed z h g.local (λ c k. s.word (Local c k)) (upd V.position by Between) V.local) sh locals)
               (subst (λ (h : ℕ → Shape). ReadRight z h g.local (upd V.position by Between) (upd V.header by None)) sh
               (read_plain z s by less g rule Between tt)))),

@@ -33,8 +33,9 @@ use Rattle.kn_keep_heap.proofs.Locals.{local_stored, local_written, locals_moved
 use Rattle.kn_keep_heap.proofs.Positions.{formed_at, at_end_at, stated_at, owners_at, cleared_at, apart_at, taken_in_at, polled_at, told_at, read_at}
 use Rattle.kn_keep_heap.proofs.Idle.{none_asked}
 use Rattle.kn_keep_heap.proofs.Wants.{stopped_at}
+use Rattle.kn_keep_heap.proofs.Phases.{not_in_mark, phased_out}
 use Rattle.kn_keep_heap.proofs.Answers.{epoch_call, answered, state_behind, calls_behind, births_behind, right_behind, in_behind, cleared_behind, due_behind}
-use Rattle.kn_keep_heap.proofs.ReadLaws.{views_plain, ranges, cell_none, quiet, read_plain}
+use Rattle.kn_keep_heap.proofs.ReadLaws.{views_plain, ranges, cell_none, calls_out, quiet, read_plain}
 use Rattle.kn_keep_heap.proofs.Values.{below_sixteen}
 
 module _ (z : Ground) (s : State) (by : ℕ) (less : by < z.sizes.threads) (here : ℕ → Bool) (g : Graph)
@@ -51,7 +52,9 @@ module _ (z : Ground) (s : State) (by : ℕ) (less : by < z.sizes.threads) (here
       let small : r < 16 = subst (λ p. IsRightCall z p) is (rule.formed.call by less) in
       let none = none_asked z s by less g rule (Writing r w n) is (λ t a. a) in
       let busy : IsBusy (s.caller by).position = subst (λ p. IsBusy p) (sym is) tt in
-      let untargeted = rule.stands.polling.untargeted by less busy in (
+      let untargeted = rule.stands.polling.untargeted by less busy in
+      let out = not_in_mark z (s.word Phase) V.position (λ c. (V.rest c).collecting.counted) rule.stands.stopped by less
+      (subst (λ p. IsInOrLeaving p) (sym is) tt) in (
         g,
         subst (λ W. RuleOf z g (put s.word (Local by r) w) s.page W s.history)
             (sym (views_moved s.caller by v refl (position_put s.caller by v) (local_same s.caller by v refl) (header_same s.caller by v refl)
@@ -96,6 +99,7 @@ module _ (z : Ground) (s : State) (by : ℕ) (less : by < z.sizes.threads) (here
                 placed = rule.stands.placed;
                 taken_in = taken_in_at z V.position by q V.own V.taken (λ c. (V.rest c).sweep) rule.stands.taken_in none;
               };
+              phased = phased_out z g.paused g.born (shapes g) (put s.word (Local by r) w) (λ c. (V.rest c).work) out (rule.phased.at_rest out);
             }),
       )
 
@@ -126,7 +130,9 @@ module _ (z : Ground) (s : State) (by : ℕ) (less : by < z.sizes.threads) (here
       subst (λ W. RuleOf z after (put s.word (Local by r) w) s.page W more)
       (sym (views_answer s.caller by v stays (local_put s.caller by v r w near refl) (own_same s.caller by v refl) (taken_same s.caller by v refl)))
       (answered z g V s.history rule.told rule.formed by less call is (epoch_call z g s.word s.page V s.history rule by less call is) replies.Ok 0
-      (with_local g by r x) (put s.word (Local by r) w) s.page rule.stands may Between tt (cell_none z s by less g rule call is none)
+      (with_local g by r x) (put s.word (Local by r) w) s.page rule.stands
+      (phased_out z g.paused g.born (shapes g) (put s.word (Local by r) w) (λ c. (V.rest c).work) (calls_out z s by less g rule call is)
+      (rule.phased.at_rest (calls_out z s by less g rule call is))) may Between tt (cell_none z s by less g rule call is none)
       (upd V.local by (upd (V.local by) r w)) (λ c ne. upd_else V.local by (upd (V.local by) r w) c ne)
       (subst (λ (words : ℕ → ℕ → ℕ). Localed z (shapes g) (upd g.local by (upd (g.local by) r x)) words (upd V.position by Between)
       (upd V.local by (upd (V.local by) r w))) (sym (local_words s.word by r w))
@@ -202,6 +208,8 @@ module _ (z : Ground) (s : State) (by : ℕ) (less : by < z.sizes.threads) (here
             (answered z g V s.history rule.told rule.formed by less call is
             (epoch_call z g s.word s.page V s.history rule by less call is) replies.Ok 0
             (with_global g i x) (put s.word (Global i) w) s.page stands
+            (phased_out z g.paused g.born (shapes g) (put s.word (Global i) w) (λ c. (V.rest c).work) (calls_out z s by less g rule call is)
+            (rule.phased.at_rest (calls_out z s by less g rule call is)))
             (record { reply_is = refl; nowhere = refl; after = ap (λ k. with_global g k x) m.0 }) Between tt
             (cell_none z s by less g rule call is refl) V.local (λ c ne. refl)
             (locals_moved z (shapes g) g.local (λ c k. s.word (Local c k)) V.position V.local rule.localed by Between

@@ -72,7 +72,7 @@ module _ (z : Ground) (s : State) (by : ℕ) (less : by < z.sizes.threads) (g : 
       })
       (s.history ++ entry_of by e call reply 0 ∷ [])) ep
       (answered z g V s.history rule.told rule.formed by less call is' (epoch_call z g word page V s.history rule by less call is') reply 0
-      g word page rule.stands may Between tt (ap (λ (x : View). x.taken) me ∙ none) V.local (λ c ne. refl)
+      g word page rule.stands rule.phased may Between tt (ap (λ (x : View). x.taken) me ∙ none) V.local (λ c ne. refl)
       (locals_moved z (shapes g) g.local (λ c i. word (Local c i)) V.position V.local rule.localed by Between
       (λ i _ h. subst (λ p. IsWriting p i) is' h) tt)
       (subst (λ (l : ℕ → ℕ → Option ℕ). ReadRight z (shapes g) l (upd V.position by Between) (upd V.header by None))

@@ -20,7 +20,7 @@ use Rattle.kn_rule.specs.Decoding.{phase_of}
 use Rattle.kn_rule.specs.Phases.{is_run, is_stop}
 use Rattle.kn_rule.specs.HistoryClauses.{Told, under_way}
 use Rattle.kn_rule.specs.CallerClauses.{IsInOrLeaving, IsStill, Stopped, IsTargetOf, is_collect, targets_had, Wanted}
-use Rattle.kn_rule.specs.Totals.{total}
+use Rattle.kn_marking.specs.Totals.{total}
 
 -- a run phase is no stop, and callers do not stand still in it
 no_still : (c : Code) → is_run c ≡ true → ¬ IsStill c

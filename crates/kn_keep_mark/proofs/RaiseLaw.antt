@@ -30,7 +30,7 @@ use Rattle.kn_rule.specs.HistoryClauses.{under_way, births_under_way, Told}
 use Rattle.kn_rule.specs.ObjectClauses.{IsReadAt, IsWriting, IsAskedBy}
 use Rattle.kn_rule.specs.CallerClauses.{state_number, IsIn, IsBusy, IsInOrLeaving, IsSince, IsTarget}
 use Rattle.kn_rule.specs.CallerClauses.{Polled, IsTargetOf, IsWantedBySome, targets_had, Wanted, IsDue}
-use Rattle.kn_rule.specs.Totals.{total}
+use Rattle.kn_marking.specs.Totals.{total}
 use Rattle.kn_rule.specs.Rule.{Rule, RuleOf}
 use Rattle.kn_keep_heap.proofs.Parts.{local_same, own_same, taken_same, position_put, polled_same, target_put, header_same, log_same, calls_same}
 use Rattle.kn_keep_heap.proofs.Parts.{births_same, rest_same, width_same}
@@ -237,6 +237,10 @@ module _ (z : Ground) (s : State) (by : ℕ) (less : by < z.sizes.threads) (g : 
                 classed = rule.stands.classed;
                 placed = rule.stands.placed;
                 taken_in = taken_in_at z V.position by Waiting V.own V.taken (λ c. (V.rest c).sweep) rule.stands.taken_in none;
+              };
+              phased = record {
+                in_mark = λ e. let m = rule.phased.in_mark e in record { marking = m.marking; headers = m.headers };
+                at_rest = rule.phased.at_rest;
               };
             }),
       )

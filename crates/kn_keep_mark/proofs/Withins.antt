@@ -16,6 +16,7 @@ use Rattle.kn_graph.specs.Sound.{Alive}
 use Rattle.kn_rule.specs.declared.steps.Kind.{Kind}
 use Rattle.kn_rule.specs.declared.steps.Kind.TheVariants.{K1, K2, K3, K4, K5, K6}
 use Rattle.kn_rule.specs.declared.steps.Kind.TheVariants.{K7, K8, K9, K10, K11, K12, K13, K14, K15, K16}
+use Rattle.kn_rule.specs.declared.steps.Kind.TheVariants.{K17, K18, K19, K20, K21, K22, K23, K24}
 use Rattle.kn_rule.specs.declared.steps.Action.{Action}
 use Rattle.kn_rule.specs.declared.positions.Position.{Position}
 use Rattle.kn_rule.specs.declared.positions.Position.TheVariants.{Calling, Writing}
@@ -30,7 +31,7 @@ use Rattle.kn_rule.specs.HistoryClauses.{IsRightCall}
 use Rattle.kn_rule.specs.ObjectClauses.{address_of}
 use Rattle.kn_rule.specs.Rule.{Rule, RuleOf}
 use Rattle.kn_rule.proofs.FrameSpans.{in_heap, is_span_of}
-use Rattle.kn_keep_mark.specs.Laws.{StepsLieWithin}
+use Rattle.kn_keep_mark.specs.Laws.{IsOfMarker}
 use Rattle.kn_keep_heap.proofs.Values.{names, below_sixteen}
 use Rattle.kn_keep_heap.proofs.Fields.{first_word, field_word, kind_below}
 use Rattle.kn_keep_heap.proofs.ReadLaws.{ranges, few, snd}
@@ -139,36 +140,43 @@ module _ (z : Ground) (good : IsGoodGround z) (s : State) (by : ℕ) (here : ℕ
   count_near p a (inl m) = subst (λ q. Within z.sizes q) (sym m.place) (omega arith)
   count_near p a (inr m) = subst (λ q. Within z.sizes q) (sym m.place) (omega arith)
 
-  within_by : (k : Kind) (p : Place) (a : Action) → MayBe z by (s.caller by) here k p a → Within z.sizes p
-  within_by K1 p a m = subst (λ q. Within z.sizes q) (sym m.place) (omega arith)
-  within_by K2 p a m = subst (λ q. Within z.sizes q) (sym m.place) (state_near m.value m.may)
-  within_by K3 p a m =
-      subst (λ q. Within z.sizes q) (sym m.place) (
-        m.thread,
-        local_within z good s by m.thread here r.0 r.1 m.local m.value (s.caller by).position refl m.may,
-      )
-  within_by K4 p a m =
-      subst (λ q. Within z.sizes q) (sym m.place)
-      (load_within z good s by m.thread here r.0 r.1 m.address (s.caller by).position (s.caller by).header refl refl m.may)
-  within_by K5 p a m =
-      subst (λ q. Within z.sizes q) (sym m.place)
-      (set_within z good s by m.thread here r.0 r.1 m.address m.value (s.caller by).position (s.caller by).header refl refl m.may)
-  within_by K6 p a m =
-      subst (λ q. Within z.sizes q) (sym m.place) (global_within z good s by m.thread here r.0 r.1 m.global (s.caller by).position refl m.may)
-  within_by K7 p a m =
-      subst (λ q. Within z.sizes q) (sym m.place) (store_within z good s by m.thread here r.0 r.1 m.global m.value (s.caller by).position refl m.may)
-  within_by K8 p a m = subst (λ q. Within z.sizes q) (sym m.place) (birth_within z good s by m.thread here r.0 r.1 p a m)
-  within_by K9 p a m = let l = m.search.near in subst (λ q. Within z.sizes q) (sym m.place) l
-  within_by K10 p a m = let l = m.search.near in subst (λ q. Within z.sizes q) (sym m.place) l
-  within_by K11 p a m = let l = m.near in subst (λ q. Within z.sizes q) (sym m.place) l
-  within_by K12 p a m =
-      subst (λ q. Within z.sizes q) (sym m.place)
-      (clear_within z good s by m.thread here r.0 r.1 m.call m.address m.value (s.caller by).taken refl m.may)
-  within_by K13 p a m = want_near p a m
-  within_by K14 p a m = subst (λ q. Within z.sizes q) (sym m.place) (omega arith)
-  within_by K15 p a m = let l = m.near in subst (λ q. Within z.sizes q) (sym m.place) (omega (arith, l))
-  within_by K16 p a m = count_near p a m
-  within_by _ p a m = absurd m
-
-pub steps_lie_within : StepsLieWithin
-steps_lie_within z s by here d good r m = within_by z good s by here r d.kind d.place d.act m
+  -- where the steps of markers are made at places of the heap, each step is
+  module _ (marks : (k : Kind) → IsOfMarker k → (p : Place) (a : Action) → MayBe z by (s.caller by) here k p a → Within z.sizes p) where
+    pub within_by : (k : Kind) (p : Place) (a : Action) → MayBe z by (s.caller by) here k p a → Within z.sizes p
+    within_by K1 p a m = subst (λ q. Within z.sizes q) (sym m.place) (omega arith)
+    within_by K2 p a m = subst (λ q. Within z.sizes q) (sym m.place) (state_near m.value m.may)
+    within_by K3 p a m =
+        subst (λ q. Within z.sizes q) (sym m.place) (
+          m.thread,
+          local_within z good s by m.thread here r.0 r.1 m.local m.value (s.caller by).position refl m.may,
+        )
+    within_by K4 p a m =
+        subst (λ q. Within z.sizes q) (sym m.place)
+        (load_within z good s by m.thread here r.0 r.1 m.address (s.caller by).position (s.caller by).header refl refl m.may)
+    within_by K5 p a m =
+        subst (λ q. Within z.sizes q) (sym m.place)
+        (set_within z good s by m.thread here r.0 r.1 m.address m.value (s.caller by).position (s.caller by).header refl refl m.may)
+    within_by K6 p a m =
+        subst (λ q. Within z.sizes q) (sym m.place) (global_within z good s by m.thread here r.0 r.1 m.global (s.caller by).position refl m.may)
+    within_by K7 p a m =
+        subst (λ q. Within z.sizes q) (sym m.place) (store_within z good s by m.thread here r.0 r.1 m.global m.value (s.caller by).position refl m.may)
+    within_by K8 p a m = subst (λ q. Within z.sizes q) (sym m.place) (birth_within z good s by m.thread here r.0 r.1 p a m)
+    within_by K9 p a m = let l = m.search.near in subst (λ q. Within z.sizes q) (sym m.place) l
+    within_by K10 p a m = let l = m.search.near in subst (λ q. Within z.sizes q) (sym m.place) l
+    within_by K11 p a m = let l = m.near in subst (λ q. Within z.sizes q) (sym m.place) l
+    within_by K12 p a m =
+        subst (λ q. Within z.sizes q) (sym m.place)
+        (clear_within z good s by m.thread here r.0 r.1 m.call m.address m.value (s.caller by).taken refl m.may)
+    within_by K13 p a m = want_near p a m
+    within_by K14 p a m = subst (λ q. Within z.sizes q) (sym m.place) (omega arith)
+    within_by K15 p a m = let l = m.near in subst (λ q. Within z.sizes q) (sym m.place) (omega (arith, l))
+    within_by K16 p a m = count_near p a m
+    within_by K17 p a m = marks K17 tt p a m
+    within_by K18 p a m = marks K18 tt p a m
+    within_by K19 p a m = marks K19 tt p a m
+    within_by K20 p a m = marks K20 tt p a m
+    within_by K21 p a m = marks K21 tt p a m
+    within_by K22 p a m = marks K22 tt p a m
+    within_by K23 p a m = marks K23 tt p a m
+    within_by K24 p a m = marks K24 tt p a m
+    within_by _ p a m = absurd m

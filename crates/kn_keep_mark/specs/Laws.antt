@@ -1,25 +1,34 @@
--- What the laws over all kinds of step say.
-use Rattle.std.specs.Prelude.{ℕ, ◌≤◌, Bool}
+-- What the laws of stops say.
+use Rattle.std.specs.Prelude.{ℕ, ◌≤◌, ◌⊎◌, Bool}
 use Rattle.kn_base.specs.declared.limits.TheConstants.{MOST_CALLS}
-use Rattle.kn_base.specs.declared.places.Place.TheVariants.{Want}
+use Rattle.kn_base.specs.declared.places.Place.TheVariants.{Phase, Want}
 use Rattle.kn_graph.specs.Ground.{Ground, IsGoodGround}
 use Rattle.kn_rule.specs.declared.steps.Kind.{Kind}
-use Rattle.kn_rule.specs.Places.{Within}
+use Rattle.kn_rule.specs.declared.steps.Kind.TheVariants.{K14, K17, K18, K19, K20, K21, K22, K23, K24}
+use Rattle.kn_rule.specs.declared.steps.Action.TheVariants.{Stores}
 use Rattle.kn_rule.specs.Views.{State}
-use Rattle.kn_rule.specs.Steps.{Step}
-use Rattle.kn_rule.specs.Allowed.{MayMake}
+use Rattle.kn_rule.specs.Steps.{Found, does}
+use Rattle.kn_rule.specs.Allowed.{Collects, MayStop, MayMark}
+use Rattle.kn_rule.specs.Moves.{stepped}
 use Rattle.kn_rule.specs.Rule.{Rule}
-use Rattle.kn_keep_heap.specs.Laws.{KeepsRule}
 
--- a step of any kind that its caller's view allows keeps the rule
-abbrev pub StepsKeepRule : Type 0
-StepsKeepRule = (k : Kind) → KeepsRule k
+-- the kinds of a marker's step, but for the load of the count of open work
+abbrev pub IsOfMarker : Kind → Type 0
+IsOfMarker K17 = Unit {0}
+IsOfMarker K18 = Unit {0}
+IsOfMarker K19 = Unit {0}
+IsOfMarker K20 = Unit {0}
+IsOfMarker K21 = Unit {0}
+IsOfMarker K22 = Unit {0}
+IsOfMarker K23 = Unit {0}
+IsOfMarker K24 = Unit {0}
+IsOfMarker _ = ⊥
 
--- a step that its caller's view allows in a state that meets the rule is made at a place of the heap
-abbrev pub StepsLieWithin : Type 0
-StepsLieWithin =
-    (z : Ground) (s : State) (by : ℕ) (here : ℕ → Bool) (d : Step) → IsGoodGround z → Rule z s → MayMake z by (s.caller by) here d →
-    Within z.sizes d.place
+-- a store of a stop, or of Mark, that the collector's view allows keeps the rule
+abbrev pub StopsKeepRule : Type 0
+StopsKeepRule =
+    (z : Ground) (s : State) (by : ℕ) (here : ℕ → Bool) (w : ℕ) (f : Found) → IsGoodGround z → Rule z s → Collects z by (s.caller by) here →
+    MayStop z by (s.caller by) here w ⊎ MayMark z by (s.caller by) here w → Rule z (stepped z s by (does K14 Phase (Stores w)) f)
 
 -- in a state that meets the rule the epoch wanted is at most the greatest number of calls
 abbrev pub EpochsAreFew : Type 0

@@ -1,8 +1,8 @@
-//! The laws: one for each kind of step, over all kinds, and on the epoch wanted.
+//! The laws of stops, and one on the epoch wanted.
 
-ghost use Rattle.kn_rule.specs.declared.steps.Kind.TheVariants.{K13, K14, K15, K16};
+ghost use Rattle.kn_rule.specs.declared.steps.Kind.TheVariants.{K13, K15, K16};
 ghost use Rattle.kn_keep_heap.specs.Laws.{KeepsRule};
-ghost use Rattle.kn_keep_mark.specs.Laws.{EpochsAreFew, StepsKeepRule, StepsLieWithin};
+ghost use Rattle.kn_keep_mark.specs.Laws.{EpochsAreFew, StopsKeepRule};
 
 /// A raise of the epoch wanted, and a load of it, keeps the rule.
 pub fn keeps_k13()
@@ -10,8 +10,8 @@ pub fn keeps_k13()
 {}
 
 /// A store of a stop, or of Mark, keeps the rule.
-pub fn keeps_k14()
-    ensures { KeepsRule K14 }
+pub fn keeps_stops()
+    ensures { StopsKeepRule }
 {}
 
 /// A load of a mutator's state keeps the rule.
@@ -22,16 +22,6 @@ pub fn keeps_k15()
 /// The store that begins the marking, and a load of the count of open work, keeps the rule.
 pub fn keeps_k16()
     ensures { KeepsRule K16 }
-{}
-
-/// Each step that a view allows is made at a place of the heap.
-pub fn places_lie()
-    ensures { StepsLieWithin }
-{}
-
-/// Each step that a view allows keeps the rule, of whatever kind it is.
-pub fn steps_keep()
-    ensures { StepsKeepRule }
 {}
 
 /// No more epochs are wanted than calls may be made.

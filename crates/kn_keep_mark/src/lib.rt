@@ -1,6 +1,5 @@
-//! The laws of the steps by which the collector stops the mutators and begins to mark, and of all
-//! kinds of step that are built: each keeps the rule of `kn_rule`. One more bounds the epoch that is
-//! wanted.
+//! The laws of the steps by which the collector stops the mutators and begins to mark: each keeps the
+//! rule of `kn_rule`. One more bounds the epoch that is wanted.
 //!
 //! This crate owns no state and no code: each law is a clause of a function that does nothing
 //! (`laws`), and what it says is written in `specs/Laws.antt` of this crate and of `kn_keep_heap`.

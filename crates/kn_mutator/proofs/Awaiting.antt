@@ -6,11 +6,13 @@ use Rattle.kn_base.specs.declared.places.Place.TheVariants.{Phase, Want}
 use Rattle.kn_base.specs.Pages.{FrameView}
 use Rattle.kn_graph.specs.declared.calls.Call.TheVariants.{Collect}
 use Rattle.kn_graph.specs.declared.calls.Reply.TheVariants as replies
+use Rattle.kn_marking.specs.declared.work.Work.{Work}
 use Rattle.kn_rule.specs.declared.positions.Position.{Position}
 use Rattle.kn_rule.specs.declared.positions.Position.TheVariants as positions
 use Rattle.kn_rule.specs.declared.steps.Action.TheVariants.{LoadsFor, Raises}
 use Rattle.kn_rule.specs.declared.steps.Kind.TheVariants.{K13}
 use Rattle.kn_rule.specs.Decoding.{phase_of}
+use Rattle.kn_rule.specs.MarkSteps.{joined_by}
 use Rattle.kn_rule.specs.Outcomes.{enters_for, epoch_told, poll_at, waited, waits_at, wanted_at}
 use Rattle.kn_rule.specs.Outcomes as outcomes
 use Rattle.kn_rule.specs.Phases.{is_run, pauses}
@@ -117,15 +119,16 @@ module _ (m : Mutating) (a : Stand) (here : ℕ → Bool) (g : Agrees m a here) 
     pub leaves_waiting : b ≡ record a { view = logged (quietly (record a.view { position = positions.Leaving })) } →
         Agrees (record m { task = Leaves }) b here' × (Leaves ≡ task_by (record m { task = Leaves }) b.view)
     leaves_waiting view = (
-      leaves_at m a here g at.owes idle None f b here' made positions.Leaving (inl refl) view,
+      leaves_at m a here g at.owes idle None f b here' made positions.Leaving a.view.work (inl refl) view,
       sym (ap (λ (x : Stand). task_at (has_left m) (has_single m.alloc.hands) x.view.header x.view.position) view),
     )
 
     pub leaves_entering : p ≡ positions.Entering → is_run (phase_of f.word).code ≡ false → Agrees (record m { task = Leaves }) b here'
     leaves_entering e run =
-        leaves_at m a here g at.owes idle None f b here' made positions.Entering (inr refl)
+        let work : Work = joined_by (phase_of f.word) a.view.work in
+        leaves_at m a here g at.owes idle None f b here' made positions.Entering work (inr refl)
         (loaded false run ∙ ((λ t. record a { view = logged (poll_at a.heap a.by a.view Phase (LoadsFor None) f (e t) false None) })
-        ∙ λ t. record a { view = record a.view { position = (at.position ∙ e) t } }))
+        ∙ λ t. record a { view = record a.view { position = (at.position ∙ e) t; work = work } }))
 
 -- the turn of such a load, at the task t
 module _ {T : Type 0} (stand : T → Stand) (here : T → ℕ → Bool) (did : T → Step → Found → T → Type 0)

@@ -22,8 +22,8 @@ use Rattle.kn_rule.specs.Rule.{Rule}
 use Rattle.kn_rule.specs.Steps.{Step, Found, entry_of, epoch_in}
 use Rattle.kn_rule.specs.Views.{State, View}
 use Rattle.kn_steps.specs.Made.{LieAs, Made, Stand}
-use Rattle.kn_keep_mark.proofs.Keeps.{keeps_rule}
 use Rattle.kn_keep_heap.proofs.SmallWords.{locals_are_addresses, phases_are_small}
+use Rattle.kn_keep_marking.proofs.Keeps.{keeps_rule}
 use Rattle.kn_safepoint.specs.declared.stage.Stage.{Stage}
 use Rattle.kn_safepoint.specs.Agree.{Agrees as SafepointAgrees, StandsAt}
 use Rattle.kn_safepoint.specs.Kept.{Kept}

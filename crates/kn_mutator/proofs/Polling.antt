@@ -16,12 +16,14 @@ use Rattle.kn_graph.specs.Answers.{yes_or_no}
 use Rattle.kn_graph.specs.Arguments.{IsInRange}
 use Rattle.kn_graph.specs.Counts.{births_among, makes_object}
 use Rattle.kn_graph.specs.Ground.{Ground}
+use Rattle.kn_marking.specs.declared.work.Work.{Work}
 use Rattle.kn_rule.specs.declared.positions.Position.{Position}
 use Rattle.kn_rule.specs.declared.positions.Position.TheVariants as positions
 use Rattle.kn_rule.specs.declared.steps.Action.TheVariants.{LoadsFor}
 use Rattle.kn_rule.specs.declared.steps.Kind.TheVariants.{K1}
 use Rattle.kn_rule.specs.Allowed.{IsBuilt, MayBegin, MayNext, MayPoll, MayPollAt, MayEnterFor}
 use Rattle.kn_rule.specs.Decoding.{phase_of}
+use Rattle.kn_rule.specs.MarkSteps.{joined_by}
 use Rattle.kn_rule.specs.Outcomes.{begin_with, poll_at, poll_run, view_answer, with_call, enters_for}
 use Rattle.kn_rule.specs.Phases.{is_run, pauses}
 use Rattle.kn_rule.specs.Requests.{birth_of, field_of, header_for}
@@ -106,10 +108,10 @@ rests_entering m v p none h =
 -- one that was in or entering goes out behind a load of the phase
 module _ (m : Mutating) (a : Stand) (here : ℕ → Bool) (g : Agrees m a here) (owes : Owes m m.target) (idle : IsIdle m.alloc.stage)
     (next : Option Call) (f : Found) (b : Stand) (here' : ℕ → Bool) (made : Made a here (does K1 Phase (LoadsFor next)) f b here') where
-  pub leaves_at : (at : Position) → ((at ≡ positions.Leaving) ⊎ (at ≡ positions.Entering)) →
-      b ≡ record a { view = record a.view { position = at } } → Agrees (record m { task = Leaves }) b here'
-  leaves_at at which view =
-      agrees_then m a here g idle b here' (record a.view { position = at }) view refl refl refl made.lies m.begun m.epoch m.locals Leaves m.log
+  pub leaves_at : (at : Position) (work : Work) → ((at ≡ positions.Leaving) ⊎ (at ≡ positions.Entering)) →
+      b ≡ record a { view = record a.view { position = at; work = work } } → Agrees (record m { task = Leaves }) b here'
+  leaves_at at work which view =
+      agrees_then m a here g idle b here' (record a.view { position = at; work = work }) view refl refl refl made.lies m.begun m.epoch m.locals Leaves m.log
       (record { locals = g.knows.locals; epoch = g.knows.epoch; log = g.knows.log; begun = g.knows.begun; target = g.knows.target }) g.births g.width
       (addresses_made a here (does K1 Phase (LoadsFor next)) f b here' made g.alloc.good (is_thread m a here g)) (which, owes, idle)
 
@@ -205,11 +207,12 @@ module _ (m : Mutating) (a : Stand) (here : ℕ → Bool) (g : Agrees m a here) 
     left_at : (p ≡ positions.Entering) ⊎ (p ≡ positions.Between) →
         b ≡ record a { view = logged (poll_at a.heap a.by a.view Phase (LoadsFor next) f p false next) } → Agrees (record m { task = Leaves }) b here'
     left_at (inl e) view =
-        leaves_at m a here g owes idle next f b here' made positions.Entering (inr refl)
+        let work : Work = joined_by (phase_of f.word) a.view.work in
+        leaves_at m a here g owes idle next f b here' made positions.Entering work (inr refl)
         (view ∙ ((λ t. record a { view = logged (poll_at a.heap a.by a.view Phase (LoadsFor next) f (e t) false next) })
-        ∙ λ t. record a { view = record a.view { position = (at.0.position ∙ e) t } }))
+        ∙ λ t. record a { view = record a.view { position = (at.0.position ∙ e) t; work = work } }))
     left_at (inr e) view =
-        leaves_at m a here g owes idle next f b here' made positions.Leaving (inl refl)
+        leaves_at m a here g owes idle next f b here' made positions.Leaving a.view.work (inl refl)
         (view ∙ λ t. record a { view = logged (poll_at a.heap a.by a.view Phase (LoadsFor next) f (e t) false next) })
 
     pub left : is_run (phase_of f.word).code ≡ false → Agrees (record m { task = Leaves }) b here'

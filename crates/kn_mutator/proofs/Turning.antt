@@ -4,6 +4,7 @@ use Rattle.kn_base.specs.declared.places.Place.TheVariants.{Local, Phase, State 
 use Rattle.kn_rule.specs.declared.positions.Position.TheVariants as positions
 use Rattle.kn_rule.specs.declared.steps.Action.TheVariants.{LoadsFor, Stores}
 use Rattle.kn_rule.specs.declared.steps.Kind.TheVariants.{K2, K3}
+use Rattle.kn_rule.specs.MarkSteps.{joined_by}
 use Rattle.kn_rule.specs.Outcomes.{write_at}
 use Rattle.kn_rule.specs.Decoding.{phase_of}
 use Rattle.kn_rule.specs.Phases.{is_run}
@@ -27,6 +28,10 @@ use Rattle.kn_mutator.specs.Tasks.{has_left, has_single, idle_at, poll_for, task
 use Rattle.kn_mutator.specs.Turns.{Goes, asks_none}
 use Rattle.kn_mutator.proofs.Making.{goes_by, makes, moves_on, not_done, rest_goes_on}
 use Rattle.kn_mutator.proofs.Core.{addresses_made, agrees_then, is_thread, rest_at}
+
+-- behind a look by one that is out: a phase of Mark brings its epoch
+abbrev looking : View → ℕ → View
+looking v w = record v { work = joined_by (phase_of w) v.work }
 
 module _ (m : Mutating) (a : Stand) (here : ℕ → Bool) (g : Agrees m a here) where
   at_task : (t : Task) → m.task ≡ t → AtTask t m a.view
@@ -54,16 +59,17 @@ module _ (m : Mutating) (a : Stand) (here : ℕ → Bool) (g : Agrees m a here) 
     at_out = at_task Out is
 
     pub looked : (f : Found) (b : Stand) (here' : ℕ → Bool) → Made a here (poll_for None) f b here' → (task : Task) →
-        (Stands m a.view positions.Out → AtTask task (record m { task = task }) a.view) → Agrees (record m { task = task }) b here'
+        (Stands m a.view positions.Out → AtTask task (record m { task = task }) (looking a.view f.word)) → Agrees (record m { task = task }) b here'
     unfolding at_out
     looked f b here' made task at =
-        let e : b ≡ record a { view = a.view } =
+        let u : View = looking a.view f.word in
+        let e : b ≡ record a { view = u } =
         made.view
         ∙ (λ t. record a {
           view = logged (Rattle.kn_rule.specs.Outcomes.poll_at a.heap a.by a.view Phase (LoadsFor None) f (at_out.position t)
               (is_run (phase_of f.word).code) None);
         }) in
-        agrees_then m a here g (subst IsIdle (sym at_out.alloc) tt) b here' a.view e refl refl refl made.lies m.begun m.epoch m.locals task m.log
+        agrees_then m a here g (subst IsIdle (sym at_out.alloc) tt) b here' u e refl refl refl made.lies m.begun m.epoch m.locals task m.log
         (record { locals = g.knows.locals; epoch = g.knows.epoch; log = g.knows.log; begun = g.knows.begun; target = g.knows.target }) g.births g.width
         (addresses_made a here (poll_for None) f b here' made g.alloc.good (is_thread m a here g)) (at at_out)
 
@@ -118,8 +124,9 @@ module _ {T : Type 0} (stand : T → Stand) (here : T → ℕ → Bool) (did : T
   -- a look by a caller that is out
   module _ (is : m.task ≡ Out) (f : Found) (made : Made (stand s) (here s) (poll_for None) f (stand s') (here s'))
       (kept : did s (poll_for None) f s') where
-    looked_as : (task : Task) → AtTask task (record m { task = task }) (stand s).view → task ≡ cond (is_run (phase_of f.word).code) GoesIn Out →
-        (HasEnded task → ⊥) → Goes stand here did moved asks_none m s s' (record m { task = task }) (told (answer_behind stages.Out f.word))
+    looked_as : (task : Task) → AtTask task (record m { task = task }) (looking (stand s).view f.word) →
+        task ≡ cond (is_run (phase_of f.word).code) GoesIn Out → (HasEnded task → ⊥) →
+        Goes stand here did moved asks_none m s s' (record m { task = task }) (told (answer_behind stages.Out f.word))
     looked_as task at e on =
         let reply : Turn = told (answer_behind stages.Out f.word) in
         let agrees = looked m (stand s) (here s) g is f (stand s') (here s') made task (λ _. at) in

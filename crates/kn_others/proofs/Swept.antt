@@ -1,8 +1,9 @@
 -- A turn leaves no frame unswept where none was.
-use Rattle.std.proofs.Common.{◌≡◌, ◌≢◌, ℕ, ◌<◌, ◌≤◌, inl, inr, cond, eqb, length, Some, refl, sym, ap, ◌∙◌, subst, arith}
+use Rattle.std.proofs.Common.{◌≡◌, ◌≢◌, ℕ, ◌+◌, ◌<◌, ◌≤◌, inl, inr, Bool, true, false, cond, eqb, length, Some}
+use Rattle.std.proofs.Common.{refl, sym, ap, ◌∙◌, subst, arith}
 use Rattle.std.proofs.lemmas.Bool.Decides.{eqb_tells}
 use Rattle.kn_base.specs.declared.places.Place.{Place}
-use Rattle.kn_base.specs.declared.places.Place.TheVariants.{Frame}
+use Rattle.kn_base.specs.declared.places.Place.TheVariants.{Local, Global, Node, Frame}
 use Rattle.kn_base.specs.declared.kinds.FrameKind.TheVariants as frames
 use Rattle.kn_base.specs.Words.{packed_frame}
 use Rattle.kn_base.specs.Classes.{IsClassNumber}
@@ -13,6 +14,7 @@ use Rattle.kn_graph.specs.Ground.{Ground, IsGoodGround}
 use Rattle.kn_rule.specs.declared.steps.Kind.{Kind}
 use Rattle.kn_rule.specs.declared.steps.Kind.TheVariants.{K1, K2, K3, K4, K5, K6}
 use Rattle.kn_rule.specs.declared.steps.Kind.TheVariants.{K7, K8, K9, K10, K11, K12, K13, K14, K15, K16}
+use Rattle.kn_rule.specs.declared.steps.Kind.TheVariants.{K17, K18, K19, K20, K21, K22, K23, K24}
 use Rattle.kn_rule.specs.declared.steps.Action.{Action}
 use Rattle.kn_rule.specs.Decoding.{frame_of, PacksFrame}
 use Rattle.kn_rule.specs.FrameSpans.{frame_span}
@@ -21,11 +23,13 @@ use Rattle.kn_rule.specs.Views.{View, State, owns}
 use Rattle.kn_rule.specs.Requests.{class_for, class_where, owned_word}
 use Rattle.kn_rule.specs.Steps.{Step, Found, callers, epoch_in, word_after}
 use Rattle.kn_rule.specs.Allowed.{MayBe, MayMake, MayClaim, MayGiveBack, MayWant, MayCount}
+use Rattle.kn_rule.specs.MarkedHeap.{name_in_set, set_place}
+use Rattle.kn_rule.specs.MarkSteps.{MayLoadCell, MayMoveMark, MayMoveSet}
 use Rattle.kn_rule.specs.Rule.{Rule}
 use Rattle.kn_rule.proofs.Indexes.{places_lie, words_are_set}
 use Rattle.kn_keep_heap.proofs.NextWord.{request_two}
 use Rattle.kn_keep_heap.proofs.BirthLaw.{class_at, epoch_small}
-use Rattle.kn_keep_mark.proofs.Withins.{steps_lie_within}
+use Rattle.kn_keep_marking.proofs.Withins.{steps_lie_within}
 use Rattle.kn_board.specs.World.{World, StandsFor, word_at, view_at, lies_at, world_after}
 use Rattle.kn_others.specs.Laws.{NoneUnswept, NoneComesUnswept}
 use Rattle.kn_others.proofs.Stored.{claimed_swept, home_swept}
@@ -98,6 +102,29 @@ module _ (w : World) (good : IsGoodGround w.heap) (s : State) (rule : Rule w.hea
     count_swept n p a (inl m) = subst (λ q. Swept q (word_after a n)) (sym m.place) none
     count_swept n p a (inr m) = subst (λ q. Swept q (word_after a n)) (sym m.place) none
 
+    set_swept : (n : ℕ) (p : Place) (a : Action) → MayMoveSet z c x p a → Swept p (word_after a n)
+    set_swept n p a (inl m) = subst (λ q. Swept q (word_after a n)) (sym m.place) none
+    set_swept n p a (inr (inl m)) = subst (λ q. Swept q (word_after a n)) (sym m.place) none
+    set_swept n p a (inr (inr m)) = subst (λ q. Swept q (word_after a n)) (sym m.place) none
+
+    -- a word of a root set is no frame's
+    root_swept : (n j i : ℕ) → Swept (set_place z.sizes j i) n
+    root_swept n j i = by (eqb j z.sizes.threads) (eqb j (z.sizes.threads + 1))
+      where
+        by : (globals names : Bool) → Swept (cond globals (Global i) (cond names (Node (name_in_set z.sizes i)) (Local j i))) n
+        by true names = none
+        by false true = none
+        by false false = none
+
+    mark_swept : (n : ℕ) (p : Place) (a : Action) → MayMoveMark z c x p a → Swept p (word_after a n)
+    mark_swept n p a (inl m) = subst (λ q. Swept q (word_after a n)) (sym m.place) none
+    mark_swept n p a (inr (inl m)) = subst (λ q. Swept q (word_after a n)) (sym m.place) none
+    mark_swept n p a (inr (inr m)) = subst (λ q. Swept q (word_after a n)) (sym m.place) none
+
+    cell_swept : (n : ℕ) (p : Place) (a : Action) → MayLoadCell z c x p a → Swept p (word_after a n)
+    cell_swept n p a (inl m) = subst (λ q. Swept q (word_after a n)) (sym m.place) none
+    cell_swept n p a (inr m) = subst (λ q. Swept q (word_after a n)) (sym m.place) none
+
     swept_by : (n : ℕ) (k : Kind) (p : Place) (a : Action) → MayBe z c x (lies_at w) k p a → n ≡ word_at w p → Swept p (word_after a n)
     swept_by n K1 p a m is = subst (λ q. Swept q (word_after a n)) (sym m.place) none
     swept_by n K2 p a m is = subst (λ q. Swept q (word_after a n)) (sym m.place) none
@@ -119,6 +146,14 @@ module _ (w : World) (good : IsGoodGround w.heap) (s : State) (rule : Rule w.hea
     swept_by n K14 p a m is = subst (λ q. Swept q (word_after a n)) (sym m.place) none
     swept_by n K15 p a m is = subst (λ q. Swept q (word_after a n)) (sym m.place) none
     swept_by n K16 p a m is = count_swept n p a m
+    swept_by n K17 p a m is = set_swept n p a m
+    swept_by n K18 p a m is = subst (λ q. Swept q (word_after a n)) (sym m.place) (root_swept (word_after a n) m.set m.word)
+    swept_by n K19 p a m is = subst (λ q. Swept q (word_after a n)) (sym m.place) none
+    swept_by n K20 p a m is = mark_swept n p a m
+    swept_by n K21 p a m is = subst (λ q. Swept q (word_after a n)) (sym m.place) none
+    swept_by n K22 p a m is = subst (λ q. Swept q (word_after a n)) (sym m.place) none
+    swept_by n K23 p a m is = cell_swept n p a m
+    swept_by n K24 p a m is = subst (λ q. Swept q (word_after a n)) (sym m.place) none
     swept_by n _ p a m is = absurd m
 
     pub swept_after : (d : Step) (f : Found) → MayMake z c x (lies_at w) d → f.word ≡ word_at w d.place →

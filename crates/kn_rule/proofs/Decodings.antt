@@ -3,13 +3,17 @@ use Rattle.std.proofs.Common.{◌≡◌, ℕ, ◌+◌, ◌*◌, ◌^◌, ◌/◌
 use Rattle.kn_base.specs.declared.kinds.FrameKind.{FrameKind}
 use Rattle.kn_base.specs.declared.kinds.FrameKind.TheVariants as frames
 use Rattle.kn_base.specs.declared.frame_word.FrameWord.{FrameWord}
+use Rattle.kn_base.specs.declared.kinds.NodeKind.{NodeKind}
+use Rattle.kn_base.specs.declared.kinds.NodeKind.TheVariants as nodes
+use Rattle.kn_base.specs.declared.node_word.NodeWord.{NodeWord}
 use Rattle.kn_base.specs.declared.header_word.HeaderWord.{HeaderWord}
 use Rattle.kn_base.specs.declared.kinds.Code.{Code}
 use Rattle.kn_base.specs.declared.kinds.Code.TheVariants as codes
 use Rattle.kn_base.specs.declared.phase_word.PhaseWord.{PhaseWord}
-use Rattle.kn_base.specs.Kinds.{code_number, frame_kind_number}
+use Rattle.kn_base.specs.Kinds.{code_number, frame_kind_number, node_kind_number}
 use Rattle.kn_base.specs.Words.{IsPhaseWord, packed_phase, IsFrameWord, packed_frame, IsHeaderWord, packed_header, HasClass, HasStamp, HasSeat}
-use Rattle.kn_rule.specs.Decoding.{phase_of, frame_of, header_of, code_of, frame_kind_of, PacksPhase, PacksFrame}
+use Rattle.kn_base.specs.Words.{IsNodeWord, packed_node, HasCount, HasAddress}
+use Rattle.kn_rule.specs.Decoding.{phase_of, frame_of, node_of, header_of, code_of, frame_kind_of, node_kind_of, PacksPhase, PacksFrame}
 
 pub header_packed : (v : HeaderWord) → IsHeaderWord v → header_of (packed_header v) ≡ v
 unfolding header_of
@@ -70,6 +74,38 @@ pub frame_packs : (v : FrameWord) → IsFrameWord v → PacksFrame (packed_frame
 frame_packs v h =
     let back = frame_packed v h in
     record { right = ap packed_frame back; ranges = subst IsFrameWord (sym back) h }
+
+node_kind_back : (k : NodeKind) → node_kind_of (node_kind_number k) ≡ k
+node_kind_back nodes.Vacant = refl
+node_kind_back nodes.Stable = refl
+node_kind_back nodes.Weak = refl
+node_kind_back nodes.Back = refl
+node_kind_back nodes.Cleared = refl
+
+count_small : (k : NodeKind) (count : ℕ) → HasCount k count → count < 2 ^ 24
+count_small nodes.Vacant count h = omega arith
+count_small nodes.Stable count h = omega arith
+count_small nodes.Weak count h = omega arith
+count_small nodes.Back count h = omega arith
+count_small nodes.Cleared count h = omega arith
+
+addr_small : (k : NodeKind) (addr : ℕ) → HasAddress k addr → addr < 2 ^ 32
+addr_small nodes.Vacant addr h = omega arith
+addr_small nodes.Stable addr h = h.1
+addr_small nodes.Weak addr h = h.1
+addr_small nodes.Back addr h = h.1
+addr_small nodes.Cleared addr h = omega arith
+
+pub node_packed : (v : NodeWord) → IsNodeWord v → node_of (packed_node v) ≡ v
+unfolding node_of
+node_packed v h =
+    let number = node_kind_number v.kind in
+    let co = count_small v.kind v.count h.of_count in
+    let ad = addr_small v.kind v.addr h.of_addr in
+    let a : (number * 2 ^ 56 + v.count * 2 ^ 32 + v.addr) / 2 ^ 56 ≡ number = omega arith in
+    let b : (number * 2 ^ 56 + v.count * 2 ^ 32 + v.addr) % 2 ^ 56 / 2 ^ 32 ≡ v.count = omega arith in
+    let c : (number * 2 ^ 56 + v.count * 2 ^ 32 + v.addr) % 2 ^ 32 ≡ v.addr = omega arith in
+    λ t. record { kind = (ap node_kind_of a ∙ node_kind_back v.kind) t; count = b t; addr = c t }
 
 code_back : (c : Code) → code_of (code_number c) ≡ c
 code_back codes.Idle = refl

@@ -6,4 +6,5 @@ pub mod FrameSpans
 pub mod WholeFrames
 pub mod Rows
 pub mod Stops
+pub mod MarkRun
 mod Tellings

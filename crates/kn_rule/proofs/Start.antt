@@ -56,6 +56,10 @@ not_mark : (phase_of 0).code ≡ codes.Mark → ⊥
 unfolding phase_of
 not_mark e = cc
 
+first_code : (phase_of 0).code ≡ codes.Idle
+unfolding phase_of
+first_code = refl
+
 first_epoch : (phase_of 0).epoch ≡ 0
 unfolding phase_of
 first_epoch = refl
@@ -88,7 +92,7 @@ start_meets_rule z page home = (
     read_right = record { each = λ c l. tt };
     localed = record { words = λ c r l m n. refl; views = λ c r l m. zero_at 16 r; due = λ c l. tt };
     stands = record {
-      timed = record { packs = phase_zero; now = not_paused; last = none_done; by_collector = refl };
+      timed = record { packs = phase_zero; now = not_paused; last = none_done; by_collector = refl; some = λ n. absurd (n first_code) };
       headed = record {
         marks = λ n l. let h = l.0 in absurd (omega arith);
         headers = λ n l. let h = l.0 in absurd (omega arith);
@@ -97,7 +101,13 @@ start_meets_rule z page home = (
       fielded = record { refs = λ n i l _ _. absurd (omega arith); ints = λ n i l _ _. absurd (omega arith) };
       cleared = record { each = λ c l. tt };
       globaled = record { words = λ i l. refl };
-      named = record { stables = λ h l. refl; weaks = λ w l ne. refl; backs = λ b l ne. refl };
+      named = record {
+        stables = λ h l. refl;
+        weaks = λ w l ne. refl;
+        backs = λ b l ne. refl;
+        cleared_weaks = λ w l e. absurd (omega arith);
+        cleared_backs = λ b l e. absurd (omega arith);
+      };
       apart = record {
         objects = λ c n t l e _. absurd (cc);
         others = λ c d t u l m n e _. absurd (cc);
@@ -110,7 +120,7 @@ start_meets_rule z page home = (
       owners = record { each = λ c p o l e. absurd (no_open (frame_count z.sizes) p o e) };
       stopped = record { still = λ h i l x. x; stopping = λ h i l e x. x };
       wanted = record { reached = omega (arith, first_epoch); known = omega arith; targets = λ e a b. absurd (omega arith); few = omega arith };
-      working = record { none = λ _. refl; all = λ e. absurd (cc); at_rest = λ _. refl; in_mark = λ e. absurd (not_mark e) };
+      working = record { none = λ _. refl; all = λ _ e. absurd (cc); at_rest = λ _. refl };
       framed = record {
         packs = λ p l. frame_zero;
         named = λ p l e. let h : frames.Vacant ≡ frames.Owned = sym vacant ∙ e in absurd (cc);
@@ -138,6 +148,18 @@ start_meets_rule z page home = (
       classed = record { area = λ p l n. absurd (n no_class) };
       placed = record { objects = λ n p l _ _. let h = l.0 in absurd (omega arith) };
       taken_in = record { owned = λ c t l e. absurd (cc); unswept = λ c t l e. absurd (cc) };
+    };
+    phased = record {
+      in_mark = λ e. absurd (not_mark e);
+      at_rest = λ _. record {
+        marks = λ n l. let h = l.0 in absurd (omega arith);
+        shares = record {
+          sets = λ j l. refl;
+          idle = λ c l. record { free = refl; no_child = refl; no_debt = refl };
+          early = λ c l. omega arith;
+          due = λ c j v l e. absurd (cc);
+        };
+      };
     };
   },
 )

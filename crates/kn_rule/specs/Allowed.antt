@@ -19,6 +19,7 @@ use Rattle.kn_graph.specs.Counts.{makes_object}
 use Rattle.kn_rule.specs.declared.steps.Kind.{Kind}
 use Rattle.kn_rule.specs.declared.steps.Kind.TheVariants.{K1, K2, K3, K4, K5, K6}
 use Rattle.kn_rule.specs.declared.steps.Kind.TheVariants.{K7, K8, K9, K10, K11, K12, K13, K14, K15, K16}
+use Rattle.kn_rule.specs.declared.steps.Kind.TheVariants.{K17, K18, K19, K20, K21, K22, K23, K24}
 use Rattle.kn_rule.specs.declared.steps.Action.{Action}
 use Rattle.kn_rule.specs.declared.steps.Action.TheVariants.{Loads, LoadsFor, Stores, Swaps, Raises}
 use Rattle.kn_rule.specs.declared.positions.Position.{Position}
@@ -31,6 +32,7 @@ use Rattle.kn_rule.specs.Requests.{birth_of, words_asked, class_asked, InArea, i
 use Rattle.kn_rule.specs.Requests.{field_of, told_kind, cleared_word}
 use Rattle.kn_rule.specs.Searches.{true_at}
 use Rattle.kn_rule.specs.Steps.{Step, epoch_in}
+use Rattle.kn_rule.specs.MarkSteps.{IsMarker, MayMoveSet, MayLoadRoot, MayReserve, MayMoveMark, MayGiveUnit, MayTakeGray, MayLoadCell, MayBlacken}
 
 -- the calls that are built
 abbrev pub IsBuilt : Call → Type 0
@@ -310,7 +312,7 @@ module _ (z : Ground) (c : ℕ) (v : View) (here : ℕ → Bool) where
   MayWant p a = MayRaise p a ⊎ MayLoadWant p a
 
   -- the phase that the collector stores next: the stop before an epoch that is wanted; Mark, where each mutator was counted in this
-  -- stop and the marking was begun
+  -- stop and the marking was begun; Weak, where the marking was seen over
   pub record MayStop (w : ℕ) : Type 0 where
     pub idle : now.code ≡ codes.Idle
     pub wanted : now.epoch < v.collecting.wanted
@@ -322,12 +324,17 @@ module _ (z : Ground) (c : ℕ) (v : View) (here : ℕ → Bool) where
     pub begun : v.collecting.over ≡ false
     pub value : w ≡ packed_phase (record { epoch = now.epoch; code = codes.Mark })
 
+  pub record MayPause (w : ℕ) : Type 0 where
+    pub in_mark : now.code ≡ codes.Mark
+    pub over : v.collecting.over ≡ true
+    pub value : w ≡ packed_phase (record { epoch = now.epoch; code = codes.Weak })
+
   pub record MayStorePhase (p : Place) (a : Action) : Type 0 where
     pub value : ℕ
     pub place : p ≡ Phase
     pub act : a ≡ Stores value
     pub collects : Collects
-    pub may : MayStop value ⊎ MayMark value
+    pub may : MayStop value ⊎ (MayMark value ⊎ MayPause value)
 
   -- the collector loads a mutator's state
   pub record MayLoadState (p : Place) (a : Action) : Type 0 where
@@ -337,8 +344,8 @@ module _ (z : Ground) (c : ℕ) (v : View) (here : ℕ → Bool) where
     pub act : a ≡ Loads
     pub collects : Collects
 
-  -- the marking begins, once in a stop, where each mutator was counted in it: a unit of work is open for each root set; in Mark
-  -- the count of open work is loaded
+  -- the marking begins, once in a stop, where each mutator was counted in it: a unit of work is open for each root set; and a marker
+  -- loads the count of open work
   pub record MayBeginMarking (p : Place) (a : Action) : Type 0 where
     pub place : p ≡ Pending
     pub act : a ≡ Stores (z.sizes.threads + 2)
@@ -350,8 +357,7 @@ module _ (z : Ground) (c : ℕ) (v : View) (here : ℕ → Bool) where
   pub record MayLoadPending (p : Place) (a : Action) : Type 0 where
     pub place : p ≡ Pending
     pub act : a ≡ Loads
-    pub collects : Collects
-    pub marks : now.code ≡ codes.Mark
+    pub marker : IsMarker z c v
 
   abbrev pub MayCount : Place → Action → Type 0
   MayCount p a = MayBeginMarking p a ⊎ MayLoadPending p a
@@ -374,6 +380,14 @@ module _ (z : Ground) (c : ℕ) (v : View) (here : ℕ → Bool) where
   MayBe K14 = MayStorePhase
   MayBe K15 = MayLoadState
   MayBe K16 = MayCount
+  MayBe K17 = MayMoveSet z c v
+  MayBe K18 = MayLoadRoot z c v
+  MayBe K19 = MayReserve z c v
+  MayBe K20 = MayMoveMark z c v
+  MayBe K21 = MayGiveUnit z c v
+  MayBe K22 = MayTakeGray z c v
+  MayBe K23 = MayLoadCell z c v
+  MayBe K24 = MayBlacken z c v
   MayBe _ = λ p a. ⊥
 
   abbrev pub MayMake : Step → Type 0

@@ -1,5 +1,6 @@
 -- The clauses of the rule on where callers stand, what they polled, and what they may own.
-use Rattle.std.specs.Prelude.{◌≡◌, ℕ, ◌+◌, ◌<◌, ◌≤◌, ◌⊎◌, true, false, Bool, List, Option, Some, None, count_by, slice_get}
+use Rattle.std.specs.Prelude.{◌≡◌, ◌≢◌, ℕ, ◌+◌, ◌<◌, ◌≤◌, ◌⊎◌, true, false, Bool, List, Option, Some}
+use Rattle.std.specs.Prelude.{None, count_by, slice_get}
 use Rattle.std.specs.List.{AllByRecursion, Contains}
 use Rattle.kn_base.specs.declared.kinds.Code.{Code}
 use Rattle.kn_base.specs.declared.kinds.Code.TheVariants as codes
@@ -17,7 +18,7 @@ use Rattle.kn_rule.specs.Decoding.{phase_of}
 use Rattle.kn_rule.specs.Phases.{is_stop}
 use Rattle.kn_rule.specs.Views.{Open}
 use Rattle.kn_rule.specs.Steps.{callers}
-use Rattle.kn_rule.specs.Totals.{total}
+use Rattle.kn_marking.specs.Totals.{total}
 
 -- in, from the entering load to the leaving one
 abbrev pub IsIn : Position → Type 0
@@ -147,10 +148,9 @@ IsAtRest codes.StopA = ⊥
 IsAtRest codes.Mark = ⊥
 IsAtRest _ = Unit {0}
 
--- the marking is over but from its beginning in a stop on; then a unit of work is open for each root set, since no marker's step is
--- built, and else none is
+-- the marking is over but from its beginning in a stop on, until the collector sees it over in Mark; where it is over no work is open;
+-- and before Mark a unit is open for each root set
 pub record Working (z : Ground) (phase pending : ℕ) (over : Bool) : Type 0 where
   pub none : over ≡ true → pending ≡ 0
-  pub all : over ≡ false → pending ≡ z.sizes.threads + 2
+  pub all : (phase_of phase).code ≢ codes.Mark → over ≡ false → pending ≡ z.sizes.threads + 2
   pub at_rest : IsAtRest (phase_of phase).code → over ≡ true
-  pub in_mark : (phase_of phase).code ≡ codes.Mark → over ≡ false

@@ -1,6 +1,7 @@
 -- The clauses of the rule on the history, the calls that were begun, and the phase.
-use Rattle.std.specs.Prelude.{◌≡◌, ℕ, ◌+◌, ◌<◌, ◌≤◌, cond, List, length, Option, Some, None, slice_index}
+use Rattle.std.specs.Prelude.{◌≡◌, ◌≢◌, ℕ, ◌+◌, ◌<◌, ◌≤◌, cond, List, length, Option, Some, None, slice_index}
 use Rattle.kn_base.specs.declared.limits.TheConstants.{LOCALS}
+use Rattle.kn_base.specs.declared.kinds.Code.TheVariants as codes
 use Rattle.kn_base.specs.Sizes.{frame_count}
 use Rattle.kn_graph.specs.declared.entries.Entry.{Entry}
 use Rattle.kn_graph.specs.Ground.{Ground}
@@ -51,9 +52,10 @@ pub record Formed (z : Ground) (position : ℕ → Position) (width : ℕ → �
   pub frames : (c : ℕ) → c < callers z.sizes → (width c).1 ≡ frame_count z.sizes
 
 -- the phase word packs a phase, and is the one that the collector stored last; the last pause of the graph and its last epoch
--- done are those that the word tells
+-- done are those that the word tells; and but in Idle its epoch is at least 1
 pub record Timed (paused done phase stored : ℕ) : Type 0 where
   pub packs : PacksPhase phase
   pub now : paused ≡ pauses (phase_of phase)
   pub last : done ≡ last_done (phase_of phase)
   pub by_collector : phase ≡ stored
+  pub some : (phase_of phase).code ≢ codes.Idle → 1 ≤ (phase_of phase).epoch

@@ -4,13 +4,14 @@ use Rattle.std.specs.Prelude.{slice_set}
 use Rattle.kn_base.specs.declared.heap.Sizes.{Sizes}
 use Rattle.kn_base.specs.declared.places.Place.{Place}
 use Rattle.kn_base.specs.declared.frame_word.FrameWord.{FrameWord}
+use Rattle.kn_base.specs.declared.node_word.NodeWord.{NodeWord}
 use Rattle.kn_base.specs.declared.header_word.HeaderWord.{HeaderWord}
-use Rattle.kn_base.specs.Words.{IsFrameWord, packed_frame, IsHeaderWord, packed_header}
+use Rattle.kn_base.specs.Words.{IsFrameWord, packed_frame, IsNodeWord, packed_node, IsHeaderWord, packed_header}
 use Rattle.kn_base.specs.Sizes.{IsGood, frame_count}
 use Rattle.kn_base.specs.SpanLists.{HasWord}
 use Rattle.kn_base.specs.Pages.{FrameView}
 use Rattle.kn_graph.specs.Ground.{Ground}
-use Rattle.kn_rule.specs.Decoding.{frame_of, header_of}
+use Rattle.kn_rule.specs.Decoding.{frame_of, node_of, header_of}
 use Rattle.kn_rule.specs.FrameSpans.{frame_span, frame_at}
 use Rattle.kn_rule.specs.Places.{Within, index, put, table_words}
 use Rattle.kn_rule.specs.Requests.{is_usable}
@@ -41,9 +42,12 @@ WordsAreSet = (z : Sizes) (words : List ℕ) (word : Place → ℕ) (n : ℕ) �
     ((p : Place) → Within z p → slice_index words (index z p) ≡ word p) → (p q : Place) → index z p < length words → Within z p → Within z q →
     slice_index (slice_set words (index z p) n) (index z q) ≡ put word p n q
 
--- a frame word, and a header, is read back from its number
+-- a frame word, a node word, and a header, is read back from its number
 abbrev pub FrameWordsDecode : Type 0
 FrameWordsDecode = (v : FrameWord) → IsFrameWord v → frame_of (packed_frame v) ≡ v
+
+abbrev pub NodeWordsDecode : Type 0
+NodeWordsDecode = (v : NodeWord) → IsNodeWord v → node_of (packed_node v) ≡ v
 
 abbrev pub HeaderWordsDecode : Type 0
 HeaderWordsDecode = (v : HeaderWord) → IsHeaderWord v → header_of (packed_header v) ≡ v

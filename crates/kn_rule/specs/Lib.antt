@@ -5,14 +5,16 @@ pub mod Places
 pub mod Views
 pub mod Requests
 pub mod Searches
+pub mod MarkedHeap
 pub mod Steps
+pub mod MarkSteps
 pub mod Outcomes
 pub mod Allowed
 pub mod Moves
 pub mod HistoryClauses
 pub mod ObjectClauses
-pub mod Totals
 pub mod CallerClauses
 pub mod FrameClauses
+pub mod MarkClauses
 pub mod Rule
 pub mod Laws

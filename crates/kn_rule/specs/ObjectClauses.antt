@@ -1,5 +1,5 @@
 -- The clauses of the rule on objects, their fields, the values of locals, globals and names, and cells that are not born.
-use Rattle.std.specs.Prelude.{◌≡◌, ◌≢◌, ℕ, ◌+◌, ◌<◌, ◌≤◌, false, Option, Some, None}
+use Rattle.std.specs.Prelude.{◌≡◌, ◌≢◌, ℕ, ◌+◌, ◌<◌, ◌≤◌, true, false, Option, Some, None}
 use Rattle.kn_base.specs.declared.limits.TheConstants.{LOCALS}
 use Rattle.kn_base.specs.declared.heap.Sizes.{Sizes}
 use Rattle.kn_base.specs.declared.kinds.NodeKind.{NodeKind}
@@ -8,7 +8,6 @@ use Rattle.kn_base.specs.declared.mark_word.MarkWord.{MarkWord}
 use Rattle.kn_base.specs.Words.{packed_mark, IsMarkWord, packed_header, IsHeaderWord, packed_node}
 use Rattle.kn_base.specs.Sizes.{frame_count}
 use Rattle.kn_base.specs.Spans.{AreApart, LiesIn}
-use Rattle.kn_base.specs.SpanLists.{HasWord}
 use Rattle.kn_layout.specs.declared.layouts.FieldKind.{FieldKind}
 use Rattle.kn_layout.specs.declared.layouts.FieldKind.TheVariants.{Ref as of_ref, Int as of_int}
 use Rattle.kn_graph.specs.Ground.{Ground}
@@ -19,6 +18,7 @@ use Rattle.kn_rule.specs.declared.parts.Taken.{Taken}
 use Rattle.kn_rule.specs.Decoding.{header_of}
 use Rattle.kn_rule.specs.FrameSpans.{frame_span}
 use Rattle.kn_rule.specs.Requests.{words_asked, field_of, cleared_word}
+use Rattle.kn_rule.specs.MarkedHeap.{cell_limit}
 use Rattle.kn_rule.specs.Steps.{callers}
 
 -- the address of what a value names, and 0 for null
@@ -38,16 +38,12 @@ pub record IsHeadedBy (o : Shape) (body : ℕ) : Type 0 where
   pub ranges : IsHeaderWord (record { layout = o.layout; length = o.length; extra = extra })
   pub packs : body ≡ packed_header (record { layout = o.layout; length = o.length; extra = extra })
 
--- a word of a small or large frame
-abbrev pub IsCellWord : Sizes → ℕ → Type 0
-IsCellWord z a = (p : ℕ) × (p < z.small + z.large) × HasWord (frame_span z p) a
-
 -- each object that is not released has a mark and a header at its first word, and every other side word of the small and large
 -- frames is 0
 pub record Headed (z : Ground) (born : ℕ) (shape : ℕ → Shape) (side body : ℕ → ℕ) : Type 0 where
   pub marks : (n : ℕ) → Lives born shape n → IsMarked (side (shape n).address)
   pub headers : (n : ℕ) → Lives born shape n → IsHeadedBy (shape n) (body (shape n).address)
-  pub blank : (a : ℕ) → IsCellWord z.sizes a → ((n : ℕ) → Lives born shape n → (shape n).address ≢ a) → side a ≡ 0
+  pub blank : (a : ℕ) → a < cell_limit z.sizes → ((n : ℕ) → Lives born shape n → (shape n).address ≢ a) → side a ≡ 0
 
 abbrev pub IsReadFor : (ℕ → Shape) → (ℕ → Option ℕ) → Option (ℕ × ℕ × FieldKind) → Option ℕ → Type 0
 IsReadFor shape local None h = Unit {0}
@@ -110,13 +106,20 @@ name_word shape kind (Some n) count = packed_node (record { kind = kind; count =
 abbrev pub cleared_name : ℕ
 cleared_name = packed_node (record { kind = nodes.Cleared; count = 0; addr = 0 })
 
--- the words of names are those of the graph, but for those that are cleared: the stable ones, then the weak ones, then the
--- back ones
+-- the object that a name names is condemned
+abbrev pub NamesCondemned : (ℕ → Shape) → Option ℕ → Type 0
+NamesCondemned shape None = ⊥
+NamesCondemned shape (Some n) = (shape n).condemned ≡ true
+
+-- the words of names are those of the graph, but for weak and back ones that are cleared, which name what is condemned: the stable
+-- ones, then the weak ones, then the back ones
 pub record Named (z : Sizes) (shape : ℕ → Shape) (stable weak back : ℕ → Option ℕ) (count : ℕ → ℕ) (word : ℕ → ℕ) : Type 0 where
   pub stables : (h : ℕ) → h < z.stable → word h ≡ name_word shape nodes.Stable (stable h) 0
   pub weaks : (w : ℕ) → w < z.weak → word (z.stable + w) ≢ cleared_name → word (z.stable + w) ≡ name_word shape nodes.Weak (weak w) 0
   pub backs : (b : ℕ) → b < z.back → word (z.stable + z.weak + b) ≢ cleared_name →
       word (z.stable + z.weak + b) ≡ name_word shape nodes.Back (back b) (count b)
+  pub cleared_weaks : (w : ℕ) → w < z.weak → word (z.stable + w) ≡ cleared_name → NamesCondemned shape (weak w)
+  pub cleared_backs : (b : ℕ) → b < z.back → word (z.stable + z.weak + b) ≡ cleared_name → NamesCondemned shape (back b)
 
 -- the call under way asks for a cell of this length
 abbrev pub IsAskedBy : Ground → Position → Taken → Type 0

@@ -1,9 +1,10 @@
 -- What a step of each kind makes of its caller's view, and which entry it makes.
-use Rattle.std.specs.Prelude.{ℕ, ◌+◌, ◌==◌, Bool, true, false, cond, [], Option, Some, None, List, nat_le, replicate, slice_set}
+use Rattle.std.specs.Prelude.{ℕ, ◌+◌, ◌==◌, Bool, true, false, cond, [], ◌∷◌, Option, Some, None, List, nat_le, replicate, slice_set}
 use Rattle.kn_base.specs.declared.numbers.Span.{Span}
 use Rattle.kn_base.specs.declared.heap.Sizes.{Sizes}
 use Rattle.kn_base.specs.declared.places.Place.{Place}
 use Rattle.kn_base.specs.declared.kinds.Code.{Code}
+use Rattle.kn_base.specs.declared.kinds.Code.TheVariants as codes
 use Rattle.kn_base.specs.declared.kinds.FrameKind.{FrameKind}
 use Rattle.kn_base.specs.declared.kinds.FrameKind.TheVariants as frames
 use Rattle.kn_base.specs.declared.classes.TheConstants.{NEXT_FIT_CLASS}
@@ -16,12 +17,14 @@ use Rattle.kn_graph.specs.declared.calls.Call.{Call}
 use Rattle.kn_graph.specs.declared.calls.Call.TheVariants.{New, NewArray, Same, Get, Set, Put, Read, GlobalGet, Collect}
 use Rattle.kn_graph.specs.declared.calls.Reply.{Reply}
 use Rattle.kn_graph.specs.declared.calls.Reply.TheVariants as replies
+use Rattle.kn_graph.specs.declared.entries.Entry.{Entry}
 use Rattle.kn_graph.specs.Ground.{Ground}
 use Rattle.kn_graph.specs.Answers.{yes_or_no}
 use Rattle.kn_graph.specs.Counts.{makes_object}
 use Rattle.kn_rule.specs.declared.steps.Kind.{Kind}
 use Rattle.kn_rule.specs.declared.steps.Kind.TheVariants.{K1, K2, K3, K4, K5, K6}
 use Rattle.kn_rule.specs.declared.steps.Kind.TheVariants.{K7, K8, K9, K10, K11, K12, K13, K14, K15, K16}
+use Rattle.kn_rule.specs.declared.steps.Kind.TheVariants.{K17, K18, K19, K20, K21, K22, K23, K24}
 use Rattle.kn_rule.specs.declared.steps.Action.{Action}
 use Rattle.kn_rule.specs.declared.steps.Action.TheVariants.{Stores}
 use Rattle.kn_rule.specs.declared.positions.Position.{Position}
@@ -34,6 +37,8 @@ use Rattle.kn_rule.specs.Views.{View, Open, Sweep, Collecting, owns, local_of}
 use Rattle.kn_rule.specs.Requests.{birth_of, words_asked, class_asked, asks_too_much, field_of, told_kind}
 use Rattle.kn_rule.specs.Searches.{is_over, refuses_at}
 use Rattle.kn_rule.specs.Steps.{Found, Outcome, word_stored, word_wanted, next_of, frame_in, address_in, local_in, state_in, epoch_in, quietly, saying}
+use Rattle.kn_rule.specs.Steps.{pause_of}
+use Rattle.kn_rule.specs.MarkSteps.{joined_by, work_after}
 
 -- the reply where a reference was read
 abbrev pub ref_word : ℕ → Reply
@@ -117,8 +122,13 @@ module _ (z : Ground) (c : ℕ) (v : View) (p : Place) (a : Action) (f : Found) 
   waits_at true (Some n) = waited n
   waits_at false (Some n) = cond (is_done n) (epoch_told v.polled n) (quietly (record v { position = Leaving }))
 
+  -- one that is out, or entering, and finds Mark, keeps its epoch
+  abbrev pub stays_out : Outcome
+  stays_out = quietly (record v { work = joined_by (phase_of f.word) v.work })
+
   abbrev pub poll_at : Position → Bool → Option Call → Outcome
-  poll_at Entering run next = cond run (enters_for v.target next) (quietly v)
+  poll_at Out run next = stays_out
+  poll_at Entering run next = cond run (enters_for v.target next) stays_out
   poll_at Between run next = cond run (poll_run next) (quietly (record v { position = Leaving }))
   poll_at Waiting run next = waits_at run v.target
   poll_at _ run next = quietly v
@@ -264,15 +274,25 @@ module _ (z : Ground) (c : ℕ) (v : View) (p : Place) (a : Action) (f : Found) 
   wanted_at (Calling call) = quietly (record v { position = Waiting; target = Some (epoch_in v + 1) })
   wanted_at _ = collects (record v.collecting { wanted = f.word })
 
-  -- a phase was stored: with a stop the counting of mutators begins anew
+  -- a phase was stored: with a stop the counting of mutators begins anew, Mark brings its epoch, and Weak is the pause
   abbrev pub counted_from : Code → List Bool → List Bool
   counted_from code counted = cond (is_stop code) (replicate z.sizes.threads false) counted
 
+  abbrev pub paused_at : Code → ℕ → List Entry
+  paused_at codes.Weak e = pause_of c e ∷ []
+  paused_at _ e = []
+
+  abbrev pub phase_view : View
+  phase_view = record v {
+    work = joined_by (phase_of (word_stored a)) v.work;
+    collecting = record v.collecting {
+      stored = word_stored a;
+      counted = counted_from (phase_of (word_stored a)).code v.collecting.counted;
+    };
+  }
+
   abbrev pub phase_stored : Outcome
-  phase_stored = collects (record v.collecting {
-    stored = word_stored a;
-    counted = counted_from (phase_of (word_stored a)).code v.collecting.counted;
-  })
+  phase_stored = record { view = phase_view; says = paused_at (phase_of (word_stored a)).code (phase_of (word_stored a)).epoch }
 
   -- a mutator's state was loaded: it is counted where it is not in, and has ended where it says so
   abbrev pub state_loaded : Outcome
@@ -285,6 +305,10 @@ module _ (z : Ground) (c : ℕ) (v : View) (p : Place) (a : Action) (f : Found) 
   abbrev pub count_at : Action → Outcome
   count_at (Stores n) = collects (record v.collecting { over = false })
   count_at _ = collects (record v.collecting { over = cond (f.word == 0) true v.collecting.over })
+
+  -- a marker's step changes its share in marking alone
+  abbrev pub worked : Kind → Outcome
+  worked k = quietly (record v { work = work_after z v.work f.word k p a })
 
   abbrev pub outcome : Kind → Outcome
   outcome K1 = polled
@@ -303,4 +327,12 @@ module _ (z : Ground) (c : ℕ) (v : View) (p : Place) (a : Action) (f : Found) 
   outcome K14 = phase_stored
   outcome K15 = state_loaded
   outcome K16 = count_at a
+  outcome K17 = worked K17
+  outcome K18 = worked K18
+  outcome K19 = worked K19
+  outcome K20 = worked K20
+  outcome K21 = worked K21
+  outcome K22 = worked K22
+  outcome K23 = worked K23
+  outcome K24 = worked K24
   outcome _ = quietly v

@@ -10,6 +10,8 @@ use Rattle.kn_base.specs.Pages.{FrameView}
 use Rattle.kn_graph.specs.declared.entries.Entry.{Entry}
 use Rattle.kn_graph.specs.Ground.{Ground}
 use Rattle.kn_graph.specs.Graph.{Graph, Shape, shapes, pointers, numbers}
+use Rattle.kn_marking.specs.declared.work.Doing.TheVariants.{Free}
+use Rattle.kn_marking.specs.declared.work.Child.TheVariants.{NoChild}
 use Rattle.kn_rule.specs.declared.positions.Position.{Position}
 use Rattle.kn_rule.specs.declared.positions.Position.TheVariants.{Out}
 use Rattle.kn_rule.specs.declared.parts.Taken.{Taken}
@@ -22,6 +24,7 @@ use Rattle.kn_rule.specs.HistoryClauses.{Told, Formed, Timed}
 use Rattle.kn_rule.specs.ObjectClauses.{Headed, ReadRight, Fielded, Cleared, Localed, Globaled, Named, Apart}
 use Rattle.kn_rule.specs.CallerClauses.{Stated, AtEnd, Polled, Owners, Stopped, Wanted, Working}
 use Rattle.kn_rule.specs.FrameClauses.{Framed, IsFilled, Housed, Handed, Classed, Placed, TakenIn}
+use Rattle.kn_rule.specs.MarkClauses.{Phased}
 
 -- the clauses that speak of words, pages and objects, and of where callers stand, part by part
 pub record Standing (z : Ground) (paused done born : ℕ) (shape : ℕ → Shape) (points : ℕ → ℕ → Option ℕ) (number : ℕ → ℕ → ℕ)
@@ -65,6 +68,7 @@ pub record RuleOf (z : Ground) (g : Graph) (word : Place → ℕ) (page : ℕ �
   pub read_right : ReadRight z (shapes g) g.local v.position v.header
   pub localed : Localed z (shapes g) g.local (λ c r. word (Local c r)) v.position v.local
   pub stands : Represents z g word page v
+  pub phased : Phased z g.paused g.born (shapes g) word (λ c. (v.rest c).work)
 
 -- the state stands for some graph
 abbrev pub Rule : Ground → State → Type 0
@@ -88,7 +92,7 @@ fresh z = record {
   owned = replicate (frame_count z.sizes) None;
   taken = None;
   sweep = None;
-  marking = record { epoch = None; root = None; set = None; cell = None; child = None; reserved = false; credits = 0 };
+  work = record { epoch = 0; due = None; doing = Free; child = NoChild; owed = 0 };
   referring = record { node = None; shown = None; extra = None };
   collecting = record {
     stored = 0;

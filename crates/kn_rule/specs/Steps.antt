@@ -2,7 +2,7 @@
 use Rattle.std.specs.Prelude.{ℕ, ◌+◌, ◌-◌, ◌==◌, cond, List, [], ◌∷◌, ◌++◌, Option, None, nat_le}
 use Rattle.kn_base.specs.declared.heap.Sizes.{Sizes}
 use Rattle.kn_base.specs.declared.places.Place.{Place}
-use Rattle.kn_base.specs.declared.places.Place.TheVariants.{State, Local, Frame, Side, Body}
+use Rattle.kn_base.specs.declared.places.Place.TheVariants.{State, RootSet, Local, Frame, Side, Body}
 use Rattle.kn_base.specs.Pages.{FrameView}
 use Rattle.kn_graph.specs.declared.calls.Call.{Call}
 use Rattle.kn_graph.specs.declared.calls.Reply.{Reply}
@@ -71,6 +71,10 @@ abbrev pub local_in : Place → ℕ
 local_in (Local i r) = r
 local_in _ = 0
 
+abbrev pub set_in : Place → ℕ
+set_in (RootSet j) = j
+set_in _ = 0
+
 abbrev pub state_in : Place → ℕ
 state_in (State i) = i
 state_in _ = 0
@@ -86,6 +90,10 @@ epoch_in v = pauses (phase_of v.polled)
 -- the entry of a call that caller c answers in an epoch
 abbrev pub entry_of : ℕ → ℕ → Call → Reply → ℕ → Entry
 entry_of c epoch call reply address = record { by = record { 0 = c }; epoch = epoch; what = events.Call call reply address }
+
+-- the entry of the pause of an epoch, which the collector makes
+abbrev pub pause_of : ℕ → ℕ → Entry
+pause_of c e = record { by = record { 0 = c }; epoch = e; what = events.Pause e }
 
 -- a list with what was said behind it
 abbrev pub more : List Entry → List Entry → List Entry

@@ -4,9 +4,9 @@ use Rattle.kn_base.specs.declared.numbers.Span.{Span}
 use Rattle.kn_base.specs.declared.places.Place.{Place}
 use Rattle.kn_base.specs.Pages.{FrameView}
 use Rattle.kn_graph.specs.declared.entries.Entry.{Entry}
+use Rattle.kn_marking.specs.declared.work.Work.{Work}
 use Rattle.kn_rule.specs.declared.positions.Position.{Position}
 use Rattle.kn_rule.specs.declared.parts.Taken.{Taken}
-use Rattle.kn_rule.specs.declared.parts.Marking.{Marking}
 use Rattle.kn_rule.specs.declared.parts.Referring.{Referring}
 use Rattle.kn_rule.specs.declared.parts.Finalizing.{Finalizing}
 
@@ -43,7 +43,7 @@ pub record Collecting : Type 0 where
 
 -- what one caller knows: where it stands; the phase word of its last poll; its target, which is the epoch that it wants by a
 -- `gc` that is not answered; its locals; the header word read for the call under way; by frame, the word seen last in this search, whether it
--- was refused in it, and what it has of the frame where it owns it; the cell taken; the frame swept; its part in marking, in
+-- was refused in it, and what it has of the frame where it owns it; the cell taken; the frame swept; its share in marking, and its part in
 -- names, in collecting and in finalizing; its log; and how many calls and births it has begun
 pub record View : Type 0 where
   pub position : Position
@@ -56,7 +56,7 @@ pub record View : Type 0 where
   pub owned : List (Option Open)
   pub taken : Option Taken
   pub sweep : Option Sweep
-  pub marking : Marking
+  pub work : Work
   pub referring : Referring
   pub collecting : Collecting
   pub finalizing : Finalizing
@@ -86,13 +86,13 @@ local_of v r = slice_index v.locals r
 -- what a view has for sweeps, marking, names, collecting and finalizing
 pub record Rest : Type 0 where
   pub sweep : Option Sweep
-  pub marking : Marking
+  pub work : Work
   pub referring : Referring
   pub collecting : Collecting
   pub finalizing : Finalizing
 
 abbrev pub rest_of : View → Rest
-rest_of v = record { sweep = v.sweep; marking = v.marking; referring = v.referring; collecting = v.collecting; finalizing = v.finalizing }
+rest_of v = record { sweep = v.sweep; work = v.work; referring = v.referring; collecting = v.collecting; finalizing = v.finalizing }
 
 -- what the views say, part by part, each by caller; `width` is how many locals and how many frames a view has room for
 pub record Views : Type 0 where

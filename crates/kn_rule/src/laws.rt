@@ -1,7 +1,7 @@
 //! The laws over the definitions that speak of no step. Each is a clause of a function that does
 //! nothing; what it says is written in `specs/Laws.antt`.
 
-ghost use Rattle.kn_rule.specs.Laws.{FrameWordsDecode, HeaderWordsDecode, PlacesLie, SearchesEnd, StartMeetsRule};
+ghost use Rattle.kn_rule.specs.Laws.{FrameWordsDecode, HeaderWordsDecode, NodeWordsDecode, PlacesLie, SearchesEnd, StartMeetsRule};
 ghost use Rattle.kn_rule.specs.Laws.{WordsAreSet, WordsHaveFrames};
 
 /// A heap whose words are 0, whose pages lie in their slots wholly free, whose callers have made no
@@ -24,6 +24,7 @@ pub fn place_laws()
 /// What is packed is read back.
 pub fn word_laws()
     ensures frame { FrameWordsDecode }
+    ensures node { NodeWordsDecode }
     ensures header { HeaderWordsDecode }
 {}
 

@@ -17,7 +17,7 @@ mod requests;
 mod steps;
 mod words;
 
-pub use parts::{Child, Finalizing, Marking, Referring, Scan, Taken};
+pub use parts::{Finalizing, Referring, Taken};
 pub use places::{place_index, table_length};
 pub use positions::Position;
 pub use requests::{area_of, class_of_words, is_past_frames, words_asked};

@@ -9,40 +9,6 @@ pub struct Taken {
     pub cleared: u32,
 }
 
-/// A root set or a cell that a marker scans: its number or address, the header read, the place
-/// reached.
-#[derive(Clone, Copy)]
-pub struct Scan {
-    pub of: u32,
-    pub header: Option<u64>,
-    pub at: u32,
-}
-
-/// What a scan found at its place: the object's address, and its mark word where it was loaded.
-#[derive(Clone, Copy)]
-pub struct Child {
-    pub address: u32,
-    pub mark: Option<u64>,
-}
-
-/// The mark work of one caller.
-#[derive(Clone, Copy)]
-pub struct Marking {
-    /// The epoch of the last phase word of Mark that it loaded or stored.
-    pub epoch: Option<u32>,
-    /// A root set, and its word, whose exchange is due.
-    pub root: Option<(u8, u64)>,
-    /// The root set that it claimed.
-    pub set: Option<Scan>,
-    /// The cell that it scans.
-    pub cell: Option<Scan>,
-    pub child: Option<Child>,
-    /// A unit of work is held for the child.
-    pub reserved: bool,
-    /// The units of work that it holds.
-    pub credits: u32,
-}
-
 /// What one caller has read for a name: the name's word, and the epoch that its referent's mark
 /// showed; and an extra cell whose next step is due.
 #[derive(Clone, Copy)]

@@ -1,7 +1,7 @@
 use kn_graph::Call;
 
 /// The kinds of step, by number. A kind is a caller's reason for one action on one word; when a
-/// view allows it is `MayMake` in `specs/Allowed.antt`. Kinds behind `K16` are not built: no view
+/// view allows it is `MayMake` in `specs/Allowed.antt`. Kinds behind `K24` are not built: no view
 /// allows them.
 #[derive(Clone, Copy)]
 pub enum Kind {

@@ -3,3 +3,5 @@ mod Answering
 mod Looked
 mod Searching
 mod Wanted
+mod Placed
+mod Working

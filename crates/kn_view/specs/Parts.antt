@@ -10,6 +10,9 @@ use Rattle.kn_graph.specs.Ground.{Ground}
 use Rattle.kn_graph.specs.declared.calls.Call.{Call}
 use Rattle.kn_graph.specs.declared.calls.Call.TheVariants.{New, NewArray, Get, GlobalGet}
 use Rattle.kn_graph.specs.Arguments.{IsInRange}
+use Rattle.kn_marking.specs.declared.work.Work.{Work}
+use Rattle.kn_marking.specs.declared.work.Doing.TheVariants.{Free}
+use Rattle.kn_marking.specs.declared.work.Child.TheVariants.{NoChild}
 use Rattle.kn_rule.specs.declared.positions.Position.{Position}
 use Rattle.kn_rule.specs.declared.positions.Position.TheVariants.{Out, Calling}
 use Rattle.kn_rule.specs.declared.parts.Taken.{Taken}
@@ -34,6 +37,7 @@ pub record Part : Type 0 where
   pub refused : List Bool
   pub taken : Option Taken
   pub sweep : Option Sweep
+  pub work : Work
   pub stored : ℕ
   pub wanted : ℕ
   pub counted : List Bool
@@ -55,6 +59,7 @@ view_with z part owned log = record (fresh z) {
   owned = owned;
   taken = part.taken;
   sweep = part.sweep;
+  work = part.work;
   collecting = record (fresh z).collecting {
     stored = part.stored;
     wanted = part.wanted;
@@ -93,6 +98,7 @@ new_part z = record {
   refused = replicate (frame_count z.sizes) false;
   taken = None;
   sweep = None;
+  work = record { epoch = 0; due = None; doing = Free; child = NoChild; owed = 0 };
   stored = 0;
   wanted = 0;
   counted = replicate z.sizes.threads false;

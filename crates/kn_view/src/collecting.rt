@@ -1,15 +1,21 @@
 //! What the collector's steps, and a wish for an epoch, make of a view.
-ghost use Rattle.std.specs.Prelude.{◌≡◌, ℕ, ◌<◌, length, true};
+ghost use Rattle.std.specs.Prelude.{◌≡◌, ℕ, ◌<◌, ◌^◌, length, true};
+ghost use Rattle.kn_base.specs.declared.places.Place.{Place};
 ghost use Rattle.kn_base.specs.declared.places.Place.TheVariants.{State};
 ghost use Rattle.kn_graph.specs.Ground.{Ground};
 ghost use Rattle.kn_rule.specs.declared.steps.Action.{Action};
 ghost use Rattle.kn_rule.specs.declared.steps.Action.TheVariants.{Loads, Stores};
+ghost use Rattle.kn_rule.specs.Decoding.{phase_of};
 ghost use Rattle.kn_rule.specs.Steps.{Found};
-ghost use Rattle.kn_rule.specs.Outcomes.{count_at, phase_stored, state_loaded, wanted_at};
-ghost use Rattle.kn_view.specs.Parts.{Makes};
+ghost use Rattle.kn_rule.specs.Views.{View};
+ghost use Rattle.kn_rule.specs.Outcomes.{count_at, counted_from, paused_at, phase_stored, state_loaded, wanted_at};
+ghost use Rattle.kn_view.specs.Parts.{Makes, said_list};
 
 use crate::known::Known;
+use crate::shares::joined;
 use crate::words::{pauses_before, stops};
+use kn_base::Caller;
+use kn_graph::{Entry, Event};
 use kn_rule::{Action, Position};
 
 impl Known {
@@ -28,9 +34,20 @@ impl Known {
     }
 
     /// What a store of the phase makes of it.
-    pub fn stores_phase(&mut self, word: u64)
-        ensures { (z : Ground) (c : ℕ) (p : _) (f : Found) → z.sizes.threads ≡ length self.old.counted →
-            Makes z self.old self.new None (λ v. phase_stored z c v p (Stores word) f) }
+    pub fn stores_phase(&mut self, by: u8, word: u64) -> Option<Entry>
+        requires { word < 2 ^ 35 }
+        ensures { (z : Ground) (p : _) (f : Found) → z.sizes.threads ≡ length self.old.counted →
+            Makes z self.old self.new result (λ v. phase_stored z by v p (Stores word) f) }
+    {
+        self.keeps_phase(word);
+        self.work = joined(self.work, word);
+        pause_in(by, word)
+    }
+
+    // The phase word is kept, and with a stop the counting of mutators begins anew.
+    fn keeps_phase(&mut self, word: u64)
+        ensures { (z : Ground) (c : ℕ) (v : View) (p : Place) (a : Action) (f : Found) → z.sizes.threads ≡ length self.old.counted →
+            self.new ≡ record self.old { stored = word; counted = counted_from z c v p a f (phase_of word).code self.old.counted } }
     {
         self.stored = word;
         if stops(word) {
@@ -62,5 +79,24 @@ impl Known {
                 }
             }
         }
+    }
+}
+
+// The pause that a store of this word makes: that of Weak.
+fn pause_in(by: u8, word: u64) -> Option<Entry>
+    requires { word < 2 ^ 35 }
+    ensures { (z : Ground) (v : View) (p : Place) (a : Action) (f : Found) →
+        said_list result ≡ paused_at z by v p a f (phase_of word).code (phase_of word).epoch }
+{
+    let code = word % 8;
+    if code == 3 {
+        let epoch = (word / 8) as u32;
+        Some(Entry {
+            by: Caller(by),
+            epoch,
+            what: Event::Pause(epoch),
+        })
+    } else {
+        None
     }
 }

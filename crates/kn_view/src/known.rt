@@ -9,6 +9,7 @@ use crate::looks::{Look, SweepPlace};
 use crate::words::pauses_before;
 use kn_base::{Caller, Sizes};
 use kn_graph::{Call, Entry, Event, Reply};
+use kn_marking::{Child, Doing, Work};
 use kn_rule::{Position, Taken};
 use std::alloc::{AllocError, Global};
 use std::marker::Model;
@@ -24,6 +25,7 @@ pub struct Known {
     pub(crate) looks: Vec<Look>,
     pub(crate) taken: Option<Taken>,
     pub(crate) sweep: Option<SweepPlace>,
+    pub(crate) work: Work,
     pub(crate) calls: u32,
     pub(crate) births: u32,
     pub(crate) stored: u64,
@@ -51,6 +53,7 @@ impl Model for Known {
       refused = map (refused_in (k.calls + 1)) k.looks.items;
       taken = k.taken;
       sweep = option_map sweep_at k.sweep;
+      work = k.work;
       stored = k.stored;
       wanted = k.wanted;
       counted = k.counted.items;
@@ -83,6 +86,13 @@ impl Known {
             looks: vec![in alloc; look; sizes.frames() as usize]?,
             taken: None,
             sweep: None,
+            work: Work {
+                epoch: 0,
+                due: None,
+                doing: Doing::Free,
+                child: Child::NoChild,
+                owed: 0,
+            },
             calls: 0,
             births: 0,
             stored: 0,

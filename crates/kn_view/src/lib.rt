@@ -11,12 +11,15 @@ mod collecting;
 mod known;
 mod loads;
 mod looks;
+mod marking;
 mod polls;
 mod searches;
+mod shares;
 mod stores;
 mod words;
 
 pub use known::Known;
 pub use loads::{field_of, kind_told, reply_to_reference};
 pub use polls::answer_alone;
+pub use shares::{body_read, child_after, moved_set, paid, reserved, rested, root_read, took_gray};
 pub use words::{is_done, left_by, pauses_before, runs, stored_by, wanted_by};

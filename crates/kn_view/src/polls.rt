@@ -1,5 +1,5 @@
 //! What polls make of a view.
-ghost use Rattle.std.specs.Prelude.{◌≡◌, ◌+◌, ◌^◌, ◌<◌, ◌≤◌, ◌==◌, false, cond, length, nat_le, replicate, slice_index};
+ghost use Rattle.std.specs.Prelude.{◌≡◌, ℕ, ◌+◌, ◌^◌, ◌<◌, ◌≤◌, ◌==◌, false, cond, length, nat_le, replicate, slice_index};
 ghost use Rattle.kn_base.specs.declared.places.Place.TheVariants.{Phase};
 ghost use Rattle.kn_base.specs.Sizes.{frame_count};
 ghost use Rattle.kn_graph.specs.declared.calls.Reply.TheVariants.{Full, Nil};
@@ -13,10 +13,11 @@ ghost use Rattle.kn_rule.specs.Phases.{is_run, last_done};
 ghost use Rattle.kn_rule.specs.Requests.{class_asked, asks_too_much};
 ghost use Rattle.kn_rule.specs.Steps.{found};
 ghost use Rattle.kn_rule.specs.Views.{View};
-ghost use Rattle.kn_rule.specs.Outcomes.{polled, poll_run, enters_for, epoch_told, waited, waits_at, view_answer};
+ghost use Rattle.kn_rule.specs.Outcomes.{polled, poll_run, enters_for, epoch_told, stays_out, waited, waits_at, view_answer};
 ghost use Rattle.kn_view.specs.Parts.{Makes, MayBegin, ground_of, view_with};
 
 use crate::known::{Known, entry_by};
+use crate::shares::joined;
 use crate::words::{is_done, pauses_before, runs};
 use kn_base::Sizes;
 use kn_graph::{Call, Entry, Reply};
@@ -46,7 +47,7 @@ impl Known {
                 if runs(word) {
                     self.enters(sizes, layouts, by, word, next)
                 } else {
-                    None
+                    self.joins(word)
                 }
             }
             Position::Between => {
@@ -58,8 +59,19 @@ impl Known {
                 }
             }
             Position::Waiting => self.waits(by, word),
+            Position::Out => self.joins(word),
             _ => None,
         }
+    }
+
+    // One that is out, or entering, and finds Mark, keeps its epoch.
+    fn joins(&mut self, word: u64) -> Option<Entry>
+        requires { word < 2 ^ 35 }
+        ensures { (z : Ground) (c : ℕ) (a : Action) (page : _) →
+            Makes z self.old self.new result (λ v. stays_out z c v Phase a (found word page)) }
+    {
+        self.work = joined(self.work, word);
+        None
     }
 
     // A run phase lets it in: it waits for the epoch that it wants, or a call begins.

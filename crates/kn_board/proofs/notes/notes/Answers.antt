@@ -1,5 +1,6 @@
 use Rattle.std.proofs.Common.{None, map, option_map, slice_get, subst}
 use Rattle.kn_rule.specs.declared.steps.Kind.TheVariants.{K2, K3, K5, K7, K10, K11, K12, K14, K15}
+use Rattle.kn_rule.specs.declared.steps.Kind.TheVariants.{K17, K18, K19, K20, K21, K22, K23, K24}
 use Rattle.kn_rule.specs.Steps.{found, frame_in, word_wanted}
 use Rattle.kn_rule.specs.Views.{flattened}
 use Rattle.kn_view.specs.Parts.{ground_of}
@@ -54,7 +55,7 @@ returns-in-K12 g c = λ page lies.
 pub returns-in-K14 : goal.returns-in-K14
 returns-in-K14 g c = λ page lies.
     let s = c.args.step in
-    noted_plain (ground_of c.args.sizes.now c.args.layouts.now) s.by c.args.known.now c.stores_phase.new.known c.args.holds.now.items None
+    noted_plain (ground_of c.args.sizes.now c.args.layouts.now) s.by c.args.known.now c.stores_phase.new.known c.args.holds.now.items c.stores_phase.result
     s.place s.act (found s.word page) c.args.kind K14 c.in-K14.is c.requires.fits (c.stores_phase.ensures page)
 
 pub returns-in-K15 : goal.returns-in-K15
@@ -62,3 +63,51 @@ returns-in-K15 g c = λ page lies.
     let s = c.args.step in
     noted_plain (ground_of c.args.sizes.now c.args.layouts.now) s.by c.args.known.now c.loads_state.new.known c.args.holds.now.items None
     s.place s.act (found s.word page) c.args.kind K15 c.in-K15.is c.requires.fits (c.loads_state.ensures page)
+
+pub returns-in-K17 : goal.returns-in-K17
+returns-in-K17 g c = λ page lies.
+    let s = c.args.step in
+    noted_plain (ground_of c.args.sizes.now c.args.layouts.now) s.by c.args.known.now c.moves_set.new.known c.args.holds.now.items None
+    s.place s.act (found s.word page) c.args.kind K17 c.in-K17.is c.requires.fits (c.moves_set.ensures page)
+
+pub returns-in-K18 : goal.returns-in-K18
+returns-in-K18 g c = λ page lies.
+    let s = c.args.step in
+    noted_plain (ground_of c.args.sizes.now c.args.layouts.now) s.by c.args.known.now c.reads_root.new.known c.args.holds.now.items None
+    s.place s.act (found s.word page) c.args.kind K18 c.in-K18.is c.requires.fits (c.reads_root.ensures page)
+
+pub returns-in-K19 : goal.returns-in-K19
+returns-in-K19 g c = λ page lies.
+    let s = c.args.step in
+    noted_plain (ground_of c.args.sizes.now c.args.layouts.now) s.by c.args.known.now c.reserves.new.known c.args.holds.now.items None
+    s.place s.act (found s.word page) c.args.kind K19 c.in-K19.is c.requires.fits (c.reserves.ensures page)
+
+pub returns-in-K20 : goal.returns-in-K20
+returns-in-K20 g c = λ page lies.
+    let s = c.args.step in
+    noted_plain (ground_of c.args.sizes.now c.args.layouts.now) s.by c.args.known.now c.moves_mark.new.known c.args.holds.now.items None
+    s.place s.act (found s.word page) c.args.kind K20 c.in-K20.is c.requires.fits (c.moves_mark.ensures page)
+
+pub returns-in-K21 : goal.returns-in-K21
+returns-in-K21 g c = λ page lies.
+    let s = c.args.step in
+    noted_plain (ground_of c.args.sizes.now c.args.layouts.now) s.by c.args.known.now c.gives_unit.new.known c.args.holds.now.items None
+    s.place s.act (found s.word page) c.args.kind K21 c.in-K21.is c.requires.fits (c.gives_unit.ensures page)
+
+pub returns-in-K22 : goal.returns-in-K22
+returns-in-K22 g c = λ page lies.
+    let s = c.args.step in
+    noted_plain (ground_of c.args.sizes.now c.args.layouts.now) s.by c.args.known.now c.takes_gray.new.known c.args.holds.now.items None
+    s.place s.act (found s.word page) c.args.kind K22 c.in-K22.is c.requires.fits (c.takes_gray.ensures page)
+
+pub returns-in-K23 : goal.returns-in-K23
+returns-in-K23 g c = λ page lies.
+    let s = c.args.step in
+    noted_plain (ground_of c.args.sizes.now c.args.layouts.now) s.by c.args.known.now c.reads_cell.new.known c.args.holds.now.items None
+    s.place s.act (found s.word page) c.args.kind K23 c.in-K23.is c.requires.fits (c.reads_cell.ensures page)
+
+pub returns-in-K24 : goal.returns-in-K24
+returns-in-K24 g c = λ page lies.
+    let s = c.args.step in
+    noted_plain (ground_of c.args.sizes.now c.args.layouts.now) s.by c.args.known.now c.blackens.new.known c.args.holds.now.items None
+    s.place s.act (found s.word page) c.args.kind K24 c.in-K24.is c.requires.fits (c.blackens.ensures page)

@@ -18,6 +18,7 @@ returns c =
       refused = unrefused k.calls k.looks.items c.self.invariant.2 t;
       taken = k.taken;
       sweep = option_map sweep_at k.sweep;
+      work = k.work;
       stored = k.stored;
       wanted = k.wanted;
       counted = k.counted.items;

@@ -1,6 +1,8 @@
 use Rattle.std.proofs.Common.{◌≡◌, ap, sym, ◌∙◌, map, replicate, None, false, true}
 use Rattle.kn_base.specs.declared.heap.Sizes.{Sizes}
 use Rattle.kn_base.specs.Sizes.{frame_count}
+use Rattle.kn_marking.specs.declared.work.Doing.TheVariants.{Free}
+use Rattle.kn_marking.specs.declared.work.Child.TheVariants.{NoChild}
 use Rattle.kn_rule.specs.declared.positions.Position.TheVariants.{Out}
 use Rattle.kn_view.specs.declared.looks.Look.{Look}
 use Rattle.kn_view.specs.Looks.{seen_in, refused_in}
@@ -26,6 +28,7 @@ returns c = λ z e.
       refused = (ap (map (refused_in 1)) items ∙ alike (refused_in 1) (frame_count z.sizes) none) t;
       taken = None;
       sweep = None;
+      work = record { epoch = 0; due = None; doing = Free; child = NoChild; owed = 0 };
       stored = 0;
       wanted = 0;
       counted = counted t;

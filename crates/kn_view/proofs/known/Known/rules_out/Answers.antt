@@ -18,6 +18,7 @@ returns c =
       refused = refused_at (k.calls + 1) k.looks.items c.args.frame look.seen_in look.word t;
       taken = k.taken;
       sweep = option_map sweep_at k.sweep;
+      work = k.work;
       stored = k.stored;
       wanted = k.wanted;
       counted = k.counted.items;

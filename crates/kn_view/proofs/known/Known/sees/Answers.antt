@@ -18,6 +18,7 @@ returns c =
       refused = refused_as_before (k.calls + 1) k.looks.items c.args.frame look (k.calls + 1) c.args.word c.index_mut-look.ensures.value t;
       taken = k.taken;
       sweep = option_map sweep_at k.sweep;
+      work = k.work;
       stored = k.stored;
       wanted = k.wanted;
       counted = k.counted.items;

@@ -1,0 +1,8 @@
+use Rattle.kn_rule.specs.Steps.{found}
+use Rattle.kn_view.specs.Parts.{ground_of}
+use Rattle.kn_board.proofs.kinds.gives_unit.Goals as goal
+
+pub returns : goal.returns
+returns c = λ page.
+    let z = ground_of c.args.sizes.now c.args.layouts.now in let s = c.args.step in let f = found s.word page in
+    c.gives_unit.ensures z s.by s.place s.act f

@@ -1,5 +1,0 @@
-use Rattle.kn_keep_mark.proofs.Withins.{steps_lie_within}
-use Rattle.kn_keep_mark.proofs.laws.places_lie.Goals as goal
-
-pub returns : goal.returns
-returns c = steps_lie_within

@@ -1,0 +1,15 @@
+pub mod Bridge
+pub mod Roots
+pub mod Reaches
+pub mod Stands
+pub mod Places
+pub mod Sides
+pub mod SetLaws
+pub mod CellLaws
+pub mod MarkerKeeps
+pub mod Condemned
+pub mod Pausing
+pub mod PauseLaw
+pub mod Keeps
+pub mod Withins
+pub mod Tells

@@ -1,0 +1,6 @@
+use Rattle.kn_rule.specs.declared.steps.Kind.TheVariants.{K21}
+use Rattle.kn_keep_marking.proofs.Keeps.{keeps_rule}
+use Rattle.kn_keep_marking.proofs.laws.keeps_k21.Goals as goal
+
+pub returns : goal.returns
+returns c = keeps_rule K21

@@ -1,0 +1,2 @@
+pub mod WordsStand
+pub mod Laws

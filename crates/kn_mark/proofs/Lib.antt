@@ -1,0 +1,10 @@
+pub mod Words
+pub mod References
+pub mod Hinting
+pub mod Finding
+pub mod Stepping
+pub mod Allowing
+pub mod Behind
+pub mod Agreeing
+pub mod Sharing
+pub mod Turning

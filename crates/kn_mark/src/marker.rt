@@ -1,0 +1,369 @@
+//! The marker, and its turn.
+ghost use Rattle.std.specs.Prelude.{◌≡◌, ℕ, ◌+◌, ◌<◌};
+ghost use Rattle.kn_base.specs.Sizes.{IsGood};
+ghost use Rattle.kn_graph.specs.Ground.{Ground};
+ghost use Rattle.kn_rule.specs.Steps.{Step, Found, does, found};
+ghost use Rattle.kn_steps.specs.Made.{Stand, Allowed, Made};
+ghost use Rattle.kn_steps.specs.Turns.{OneTurn};
+ghost use Rattle.kn_mark.specs.declared.stage.Stage.TheVariants as stages;
+ghost use Rattle.kn_mark.specs.declared.turn.MarkTurn.TheVariants.{Over};
+ghost use Rattle.kn_mark.specs.Kept.{LiesInHeap, free_share as free_share_of, new_kept, started};
+ghost use Rattle.kn_mark.specs.Steps.{IsAt, IsClear, IsFree, IsNext, NamesNear};
+ghost use Rattle.kn_mark.specs.Steps as steps_of;
+ghost use Rattle.kn_mark.specs.Agree.{Agrees, HasRest, IsAtRef, MayStart, OnlyMarked};
+ghost use Rattle.kn_mark.specs.Turns.{Goes, IdleWhereNothing, OverWhereNone, Turned};
+ghost use Rattle.arrayvec.specs.ArrayVec.{array_vec_len};
+
+use crate::heap::{cell_limit, fields_told, set_place, set_words};
+use crate::hints::{last_of, learn_hints};
+use crate::make::make;
+use crate::next::Next;
+use crate::stage::Stage;
+use crate::turn::MarkTurn;
+use arrayvec::ArrayVec;
+use kn_base::{Home, Place, Sizes};
+use kn_layout::Layout;
+use kn_marking::{Child, Doing, Work};
+use kn_rule::{Action, Kind};
+use kn_steps::Steps;
+use kn_view::{body_read, child_after, moved_set, paid, reserved, rested, root_read, took_gray};
+use std::marker::Model;
+
+/// The greatest number of hints that a marker keeps.
+pub const MOST_HINTS: usize = 64;
+
+/// The greatest number of loads of a search.
+pub const SEARCH_LOADS: u8 = 64;
+
+/// A marker of a heap. Contracts see a `Kept` of `specs/Kept.antt`.
+#[derive(Drop)]
+pub struct Marker {
+    sizes: Sizes,
+    work: Work,
+    stage: Stage,
+    hints: ArrayVec<u32, 64>,
+    cursor: u32,
+}
+
+impl Model for Marker {
+    ghost use Rattle.kn_mark.specs.Kept.{Kept, LiesInHeap};
+
+    ghost Value = { Kept };
+
+    ghost view = { λ a. record { sizes = a.sizes; work = a.work; stage = a.stage; hints = a.hints.items; cursor = a.cursor } };
+
+    ghost invariant = { λ a. LiesInHeap (record { sizes = a.sizes; work = a.work; stage = a.stage; hints = a.hints.items; cursor = a.cursor }) };
+}
+
+impl Marker {
+    /// The marker of a heap of these sizes. It is to be started before its first turn.
+    pub fn open(sizes: &Sizes) -> Marker
+        requires { IsGood sizes.now }
+        ensures { result ≡ new_kept sizes.now }
+    {
+        Marker {
+            sizes: *sizes,
+            work: free_share(0),
+            stage: Stage::Looks(0),
+            hints: ArrayVec::new(),
+            cursor: 1,
+        }
+    }
+
+    /// Begins with the marking of an epoch. Where its caller's view has a share of the epoch with nothing
+    /// under way (`MayStart`), the two agree. The cursor stays.
+    pub fn start(&mut self, epoch: u32)
+        ensures started { self.new ≡ started self.old epoch }
+        ensures agrees { (a : Stand) → MayStart self.old.sizes epoch a → Agrees self.new a }
+    {
+        self.work = free_share(epoch);
+        self.stage = Stage::Looks(0);
+        self.hints.clear();
+    }
+
+    /// Makes the next step (`Turned` in `specs/Turns.antt`). `layouts` are those of the heap. `Idle` where
+    /// the word loaded is that of a root set that is not to be claimed, or, in search of a gray object, a
+    /// mark that is not gray of the epoch. `Over` where the count of open work was loaded and is 0. The
+    /// turn of a cell takes time for the number fields before its next reference field, too.
+    pub fn turn<P: Home, T: Steps<P>>(&mut self, steps: &mut T, layouts: &[Layout]) -> MarkTurn
+        requires agrees { Agrees self.old (T.stand steps.old) }
+        requires layouts { (T.stand steps.old).heap.layouts ≡ layouts.now }
+        ensures turned { Turned T.stand T.here T.did self.old steps.old steps.new self.new result }
+        ensures agrees { Agrees self.new (T.stand steps.new) }
+        ensures one { OneTurn T.stand T.here T.did T.moved steps.old steps.new }
+        ensures over { OverWhereNone T.stand T.here T.did T.moved steps.old steps.new result }
+        ensures idle { IdleWhereNothing T.stand T.here T.did T.moved self.old steps.old steps.new result }
+        ensures only { OnlyMarked (T.stand steps.old) (T.here steps.old) (T.stand steps.new) (T.here steps.new) }
+        ensures rest { result ≡ Over → HasRest self.old.work.epoch (T.stand steps.new) }
+    {
+        self.goes_on(steps, layouts)
+    }
+
+    fn goes_on<P: Home, T: Steps<P>>(&mut self, steps: &mut T, layouts: &[Layout]) -> MarkTurn
+        requires agrees { Agrees self.old (T.stand steps.old) }
+        requires layouts { (T.stand steps.old).heap.layouts ≡ layouts.now }
+        ensures { Goes T.stand T.here T.did T.moved self.old steps.old steps.new self.new result }
+    {
+        let next = self.next();
+        let (kind, place, act) = self.step(next);
+        let word = make(steps, kind, place, act);
+        self.learns(layouts, next, word)
+    }
+
+    // What it does next.
+    fn next(&self) -> Next
+        ensures next { IsNext self.now result }
+        ensures lies { LiesInHeap self.now }
+    {
+        if self.work.owed > 0 {
+            return Next::Gives;
+        }
+        match self.work.child {
+            Child::NoChild => self.next_place(),
+            Child::Met(child) => Next::Meets(child),
+            Child::Seen(child, mark) => Next::Adds(child, mark),
+            Child::Reserved(child, mark) => Next::Grays(child, mark),
+        }
+    }
+
+    fn next_place(&self) -> Next
+        requires { IsClear self.now }
+        ensures { IsNext self.now result }
+    {
+        match self.work.doing {
+            Doing::Free => self.next_free(),
+            Doing::Set(set, word) => {
+                if word < set_words(&self.sizes, set) {
+                    Next::LoadsRoot(set, word)
+                } else {
+                    Next::Finishes(set)
+                }
+            }
+            Doing::Header(cell) => Next::LoadsHeader(cell),
+            Doing::Cell(cell, header, field) => {
+                if field < fields_told(header) {
+                    Next::LoadsField(cell, header, field)
+                } else {
+                    Next::Blackens(cell)
+                }
+            }
+        }
+    }
+
+    fn next_free(&self) -> Next
+        requires { IsFree self.now }
+        ensures { IsNext self.now result }
+    {
+        if let Some((set, word)) = self.work.due {
+            return Next::Claims(set, word);
+        }
+        match self.stage {
+            Stage::Looks(set) => Next::LooksAt(set),
+            Stage::TakesUp => match last_of(self.hints.as_slice()) {
+                Some(object) => Next::TakesUp(object),
+                None => Next::Counts,
+            },
+            Stage::Searches(left) => Next::Searches(left),
+        }
+    }
+
+    // The step that it makes next.
+    fn step(&self, next: Next) -> (Kind, Place, Action)
+        requires { IsNext self.now next }
+        ensures { does result.0 result.1 result.2 ≡ steps_of.step_of self.now next }
+    {
+        let epoch = 4 * u64::from(self.work.epoch);
+        match next {
+            Next::Gives => (Kind::K21, Place::Pending, Action::Subtracts(1)),
+            Next::Meets(child) => (Kind::K20, Place::Side(child), Action::Loads),
+            Next::Adds(_, _) => (Kind::K19, Place::Pending, Action::Adds(1)),
+            Next::Grays(child, mark) => {
+                (
+                    Kind::K20,
+                    Place::Side(child),
+                    Action::Swaps(mark, epoch + 1),
+                )
+            }
+            Next::LoadsRoot(set, word) => {
+                (Kind::K18, set_place(&self.sizes, set, word), Action::Loads)
+            }
+            Next::Finishes(set) => (Kind::K17, Place::RootSet(set), Action::Stores(epoch + 3)),
+            Next::LoadsHeader(cell) => (Kind::K23, Place::Body(cell), Action::Loads),
+            Next::LoadsField(cell, _, field) => {
+                (Kind::K23, Place::Body(cell + 1 + field), Action::Loads)
+            }
+            Next::Blackens(cell) => (Kind::K24, Place::Side(cell), Action::Stores(epoch + 3)),
+            Next::Claims(set, word) => {
+                (
+                    Kind::K17,
+                    Place::RootSet(set),
+                    Action::Swaps(word, epoch + 2),
+                )
+            }
+            Next::LooksAt(set) => (Kind::K17, Place::RootSet(set), Action::Loads),
+            Next::TakesUp(object) => {
+                (
+                    Kind::K22,
+                    Place::Side(object),
+                    Action::Swaps(epoch + 1, epoch + 2),
+                )
+            }
+            Next::Counts => (Kind::K16, Place::Pending, Action::Loads),
+            Next::Searches(_) => (Kind::K20, Place::Side(self.cursor), Action::Loads),
+        }
+    }
+
+    // What it keeps behind its next step, which found a word, and what its turn answers.
+    fn learns(&mut self, layouts: &[Layout], next: Next, word: u64) -> MarkTurn
+        requires next { IsNext self.old next }
+        requires at_ref { (z : Ground) → z.layouts ≡ layouts.now → IsAtRef z self.old.work.doing }
+        requires near { NamesNear self.old next word }
+        ensures behind { (z : Ground) → z.sizes ≡ self.old.sizes → z.layouts ≡ layouts.now →
+            self.new ≡ steps_of.behind z self.old next word }
+        ensures answer { result ≡ steps_of.answer_behind self.old next word }
+    {
+        let answer = self.answer(next, word);
+        let work = self.work_behind(layouts, next, word);
+        let stage = self.stage_behind(next, word);
+        let cursor = self.cursor_behind(next);
+        learn_hints(&mut self.hints, next, word, self.work.epoch, self.cursor);
+        self.work = work;
+        self.stage = stage;
+        self.cursor = cursor;
+        answer
+    }
+
+    fn work_behind(&self, layouts: &[Layout], next: Next, word: u64) -> Work
+        requires next { IsNext self.now next }
+        requires near { NamesNear self.now next word }
+        ensures { (z : Ground) → z.sizes ≡ self.now.sizes → z.layouts ≡ layouts.now → result ≡ steps_of.work_behind z self.now next word }
+    {
+        let work = self.work;
+        let gray = 4 * u64::from(self.work.epoch) + 1;
+        match next {
+            Next::Gives => paid(work),
+            Next::Meets(child) => child_after(layouts, work, child, Action::Loads, word),
+            Next::Adds(_, _) => reserved(work),
+            Next::Grays(child, mark) => {
+                child_after(layouts, work, child, Action::Swaps(mark, gray), word)
+            }
+            Next::LoadsRoot(_, _) => root_read(&self.sizes, layouts, work, word),
+            Next::LoadsHeader(_) => body_read(layouts, work, word),
+            Next::LoadsField(_, _, _) => body_read(layouts, work, word),
+            Next::Finishes(_) | Next::Blackens(_) => rested(work),
+            Next::Claims(set, old) => moved_set(work, set, Action::Swaps(old, gray + 1), word),
+            Next::LooksAt(set) => moved_set(work, set, Action::Loads, word),
+            Next::TakesUp(object) => took_gray(work, object, word),
+            Next::Counts | Next::Searches(_) => work,
+        }
+    }
+
+    fn stage_behind(&self, next: Next, word: u64) -> Stage
+        requires { IsNext self.now next }
+        ensures { result ≡ steps_of.stage_behind self.now next word }
+    {
+        match next {
+            Next::LooksAt(set) => after_set(&self.sizes, set),
+            Next::Counts => {
+                if word == 0 {
+                    self.stage
+                } else {
+                    Stage::Searches(SEARCH_LOADS)
+                }
+            }
+            Next::Searches(left) => {
+                if word == 4 * u64::from(self.work.epoch) + 1 {
+                    Stage::TakesUp
+                } else {
+                    self.searched(left)
+                }
+            }
+            _ => self.stage,
+        }
+    }
+
+    fn searched(&self, left: u8) -> Stage
+        ensures { result ≡ steps_of.searched self.now left }
+    {
+        if self.cursor + 1 < cell_limit(&self.sizes) {
+            if left > 1 {
+                Stage::Searches(left - 1)
+            } else {
+                Stage::TakesUp
+            }
+        } else {
+            Stage::TakesUp
+        }
+    }
+
+    fn cursor_behind(&self, next: Next) -> u32
+        ensures { result ≡ steps_of.cursor_behind self.now next }
+    {
+        match next {
+            Next::Searches(_) => {
+                if self.cursor + 1 < cell_limit(&self.sizes) {
+                    self.cursor + 1
+                } else {
+                    1
+                }
+            }
+            _ => self.cursor,
+        }
+    }
+
+    fn answer(&self, next: Next, word: u64) -> MarkTurn
+        ensures { result ≡ steps_of.answer_behind self.now next word }
+    {
+        let epoch = 4 * u64::from(self.work.epoch);
+        match next {
+            Next::LooksAt(set) => {
+                if word < epoch {
+                    MarkTurn::Moved
+                } else {
+                    MarkTurn::Idle(Place::RootSet(set), word)
+                }
+            }
+            Next::Counts => {
+                if word == 0 {
+                    MarkTurn::Over
+                } else {
+                    MarkTurn::Moved
+                }
+            }
+            Next::Searches(_) => {
+                if word == epoch + 1 {
+                    MarkTurn::Moved
+                } else {
+                    MarkTurn::Idle(Place::Side(self.cursor), word)
+                }
+            }
+            _ => MarkTurn::Moved,
+        }
+    }
+}
+
+// The stage behind a root set.
+fn after_set(sizes: &Sizes, set: u8) -> Stage
+    requires good { IsGood sizes.now }
+    requires near { set < sizes.now.threads + 2 }
+    ensures { result ≡ steps_of.after_set sizes.now set }
+{
+    if u32::from(set) + 1 < sizes.threads + 2 {
+        Stage::Looks(set + 1)
+    } else {
+        Stage::TakesUp
+    }
+}
+
+// A share of an epoch with nothing under way.
+fn free_share(epoch: u32) -> Work
+    ensures { result ≡ free_share_of epoch }
+{
+    Work {
+        epoch,
+        due: None,
+        doing: Doing::Free,
+        child: Child::NoChild,
+        owed: 0,
+    }
+}

@@ -1,0 +1,9 @@
+pub mod Changes
+pub mod Totals
+pub mod Ties
+pub mod Shades
+pub mod Quiet
+pub mod Ends
+pub mod Steps
+pub mod Begins
+pub mod Rests
