@@ -8,12 +8,13 @@ ghost use Rattle.kn_script.specs.Good.{IsGoodScript};
 ghost use Rattle.kn_cms.specs.declared.words.TheConstants.{CORE_WORDS};
 ghost use Rattle.kn_cms_rule.specs.Calls.{is_core_call};
 ghost use Rattle.kn_commands.specs.Ends.{IsRead, IsSilent, IsUnread};
-ghost use Rattle.kn_commands.specs.CmsEnds.{IsCmsEnd, RanOnCore};
+ghost use Rattle.kn_commands.specs.CmsEnds.{IsCmsEnd, OkAndSpentApart, RanOnCore};
 
 use crate::ends::{end_run, read_bytes, tell};
 use crate::status::Status;
 use kn_cms::read_core_script;
 use kn_cms_report::core_report;
+use kn_cms_trace::laws::one_run_law;
 use kn_cms_trace::{CoreTraced, trace_core};
 use kn_io::{Sink, Source};
 use kn_script::{Fault, Script, state_laws};
@@ -72,4 +73,12 @@ pub fn run_cms<S: Source, K: Sink>(alloc: Global, source: &mut S, sink: &mut K) 
         Ok(report) => end_run(sink, report),
         Err(_) => Status::Memory,
     }
+}
+
+/// Of the same bytes no run of a core ends with `Ok` and another with `turns spent`.
+pub fn cms_law()
+    ensures { OkAndSpentApart }
+{
+    state_laws();
+    one_run_law();
 }

@@ -14,7 +14,7 @@ mod status;
 mod trace;
 mod words;
 
-pub use cms::run_cms;
+pub use cms::{cms_law, run_cms};
 pub use program::{exit_of, run_program, words_of};
 pub use status::Status;
 pub use trace::{TraceEnd, run_trace};

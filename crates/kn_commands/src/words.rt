@@ -1,4 +1,4 @@
-ghost use Rattle.std.specs.Prelude.{◌≡◌, ◌↔◌, [], ◌∷◌, IsTrue, map};
+ghost use Rattle.std.specs.Prelude.{◌≡◌, ◌↔◌, None, [], ◌∷◌, IsTrue, map};
 ghost use Rattle.kn_io.specs.Devices.{seen};
 ghost use Rattle.kn_commands.specs.Words.{AskCms, AskTrace, Asks, without_dashes};
 ghost use Rattle.kn_commands.specs.CmsEnds.{IsCmsEnd};
@@ -57,6 +57,7 @@ pub fn run_words<S: Source, K: Sink>(
     ensures cms { AskCms (map (λ word. word.now) words.now) → IsCmsEnd
         (seen S.left S.faults K.held K.faults source.old sink.old)
         (seen S.left S.faults K.held K.faults source.new sink.new) result.status }
+    ensures no_board { AskCms (map (λ word. word.now) words.now) → result.board ≡ None }
     ensures usage { (AskTrace (map (λ word. word.now) words.now) → ⊥) → (AskCms (map (λ word. word.now) words.now) → ⊥) → IsUsageEnd
         (seen S.left S.faults K.held K.faults source.old sink.old)
         (seen S.left S.faults K.held K.faults source.new sink.new) result.status result.board }

@@ -1,10 +1,10 @@
 -- How what a marker keeps agrees with what its caller knows.
 use Rattle.std.specs.Prelude.{◌≡◌, ℕ, ◌<◌, Bool, true, Some}
-use Rattle.kn_base.specs.declared.heap.Sizes.{Sizes}
 use Rattle.kn_layout.specs.declared.layouts.FieldKind.TheVariants.{Ref as of_ref}
 use Rattle.kn_graph.specs.Ground.{Ground, IsGoodGround}
 use Rattle.kn_marking.specs.declared.work.Doing.{Doing}
 use Rattle.kn_marking.specs.declared.work.Doing.TheVariants as doings
+use Rattle.kn_marking.specs.Shares.{joined}
 use Rattle.kn_rule.specs.Decoding.{header_of}
 use Rattle.kn_rule.specs.Requests.{told_kind}
 use Rattle.kn_rule.specs.MarkSteps.{IsMarker}
@@ -27,12 +27,19 @@ pub record Agrees (k : Kept) (a : Stand) : Type 0 where
   pub share : a.view.work ≡ k.work
   pub at_ref : IsAtRef a.heap k.work.doing
 
--- a caller over the heap of these sizes may mark, and has a share of the epoch with nothing under way
-pub record MayStart (z : Sizes) (e : ℕ) (a : Stand) : Type 0 where
+-- but for the epoch, of which the view may have joined a later one, the share that a marker keeps is the one that a caller's view
+-- has, over the heap of its sizes; and the field that it reached holds a reference
+pub record IsShareOf (k : Kept) (a : Stand) : Type 0 where
+  pub sizes : a.heap.sizes ≡ k.sizes
+  pub share : a.view.work ≡ joined k.work a.view.work.epoch
+  pub at_ref : IsAtRef a.heap k.work.doing
+
+-- a caller may mark, and has the share that the marker keeps, of this epoch
+pub record MayStart (k : Kept) (e : ℕ) (a : Stand) : Type 0 where
   pub good : IsGoodGround a.heap
-  pub sizes : a.heap.sizes ≡ z
   pub marker : IsMarker a.heap a.by a.view
-  pub share : a.view.work ≡ free_share e
+  pub share : IsShareOf k a
+  pub epoch : a.view.work.epoch ≡ e
 
 -- a caller's step changed its share, and whether it saw the marking over, and nothing else of its view, and no page was moved
 pub record OnlyMarked (a : Stand) (here : ℕ → Bool) (b : Stand) (here' : ℕ → Bool) : Type 0 where

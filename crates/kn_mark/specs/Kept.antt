@@ -8,6 +8,7 @@ use Rattle.kn_marking.specs.declared.work.Doing.{Doing}
 use Rattle.kn_marking.specs.declared.work.Doing.TheVariants as doings
 use Rattle.kn_marking.specs.declared.work.Child.{Child}
 use Rattle.kn_marking.specs.declared.work.Child.TheVariants as children
+use Rattle.kn_marking.specs.Shares.{joined}
 use Rattle.kn_rule.specs.Decoding.{header_of}
 use Rattle.kn_rule.specs.MarkedHeap.{cell_limit, set_words}
 use Rattle.kn_mark.specs.declared.stage.Stage.{Stage}
@@ -30,9 +31,9 @@ free_share e = record { epoch = e; due = None; doing = doings.Free; child = chil
 abbrev pub new_kept : Sizes → Kept
 new_kept z = record { sizes = z; work = free_share 0; stage = Looks 0; hints = []; cursor = 1 }
 
--- a marker that was started for an epoch: its cursor stays
+-- a marker that was started for an epoch: its cursor stays, and so does what is under way
 abbrev pub started : Kept → ℕ → Kept
-started k e = record k { work = free_share e; stage = Looks 0; hints = [] }
+started k e = record k { work = joined k.work e; stage = Looks 0; hints = [] }
 
 -- the root set that it comes to is one of the heap's
 abbrev pub SetLies : Sizes → Stage → Type 0

@@ -23,7 +23,6 @@ use Rattle.kn_mark.specs.declared.next.Next.TheVariants.{Gives, Meets, Adds, Gra
 use Rattle.kn_mark.specs.declared.next.Next.TheVariants.{Claims, LooksAt, TakesUp, Counts, Searches}
 use Rattle.kn_mark.specs.declared.turn.MarkTurn.{MarkTurn}
 use Rattle.kn_mark.specs.declared.turn.MarkTurn.TheVariants.{Moved, Idle, Over}
-use Rattle.kn_mark.specs.declared.marker.TheConstants.{MOST_HINTS, SEARCH_LOADS}
 use Rattle.kn_mark.specs.Kept.{Kept}
 
 -- the last hint, and the others
@@ -35,7 +34,7 @@ but_last hints = take (length hints - 1) hints
 
 -- the hints with one more, which is kept where fewer than 64 are
 abbrev pub with_hint : List ℕ → ℕ → List ℕ
-with_hint hints x = cond (nat_lt (length hints) MOST_HINTS) (hints ++ x ∷ []) hints
+with_hint hints x = cond (nat_lt (length hints) 64) (hints ++ x ∷ []) hints
 
 -- it owes no unit and has no child
 abbrev pub IsClear : Kept → Type 0
@@ -114,7 +113,7 @@ searched k n =
 
 abbrev pub stage_behind : Kept → Next → ℕ → Stage
 stage_behind k (LooksAt j) w = after_set k.sizes j
-stage_behind k Counts w = cond (w == 0) k.stage (stages.Searches SEARCH_LOADS)
+stage_behind k Counts w = cond (w == 0) k.stage (stages.Searches 64)
 stage_behind k (Searches n) w = cond (w == gray k.work.epoch) stages.TakesUp (searched k n)
 stage_behind k _ w = k.stage
 

@@ -70,13 +70,13 @@ impl Marker {
         }
     }
 
-    /// Begins with the marking of an epoch. Where its caller's view has a share of the epoch with nothing
-    /// under way (`MayStart`), the two agree. The cursor stays.
+    /// Begins with the marking of an epoch. Where its caller may mark and has the share that it keeps, of
+    /// that epoch (`MayStart`), the two agree. The cursor stays, and so does what is under way.
     pub fn start(&mut self, epoch: u32)
         ensures started { self.new ≡ started self.old epoch }
-        ensures agrees { (a : Stand) → MayStart self.old.sizes epoch a → Agrees self.new a }
+        ensures agrees { (a : Stand) → MayStart self.old epoch a → Agrees self.new a }
     {
-        self.work = free_share(epoch);
+        self.work.epoch = epoch;
         self.stage = Stage::Looks(0);
         self.hints.clear();
     }

@@ -16,6 +16,7 @@ returns c =
     record {
       last = ran.last;
       left = record {
+        is_script = record { good = c.requires.good; calls = c.requires.calls };
         is_run = subst (λ (b : Bool). IsCoreRunOf script b ran.last) off ran.run;
         spent_below = λ no. absurd (cc);
         kept = ran.kept;
