@@ -15,16 +15,14 @@ ghost use Rattle.kn_alloc.specs.declared.alloc.TheConstants.{CLASSES};
 ghost use Rattle.kn_alloc.specs.declared.stage.Hand.{Hand};
 ghost use Rattle.kn_alloc.specs.declared.stage.Stage.TheVariants.{Resting, TooLong, Returns, Refuses, Searches, Takes, Clears, Bears, PutsHome};
 ghost use Rattle.kn_alloc.specs.declared.stage.AllocTurn.TheVariants.{Moved, Born, Full};
-ghost use Rattle.kn_alloc.specs.Keeps.{AreByClass, IsHeaderOf, Starts, begun, header_asked, new_keeps, readied, stage_after, stage_behind, word_at};
-ghost use Rattle.kn_alloc.specs.Keeps.{born_mark, words_of_request};
+ghost use Rattle.kn_alloc.specs.Keeps.{AreByClass, IsHeaderOf, IsLookRight, Starts, begun, header_asked, new_keeps, readied, stage_after};
+ghost use Rattle.kn_alloc.specs.Keeps.{born_mark, stage_behind, word_at, words_of_request};
 ghost use Rattle.kn_alloc.specs.Turns.{Turned, IsBornAt, IsFullAt, BearsCell, ClearsWord, GoesBack, IsDenied, IsRefused, Seeks};
 ghost use Rattle.kn_alloc.specs.Turns.{TakesPage};
 ghost use Rattle.kn_alloc.specs.Agree.{Agrees, HasBegun, IsGetting, IsSweeping, MayTurn, MayRefuse};
 ghost use Rattle.kn_alloc.specs.Tells.{IsBehind, IsKept, TellsView};
 
-use crate::stage::{
-    AllocTurn, Hand, Request, Stage, answer_of, born_mark, stage_after, stage_behind,
-};
+use crate::stage::{AllocTurn, Hand, Request, Stage, answer_of, born_mark, stage_behind};
 use kn_base::{Caller, FrameNo, HeaderWord, Place, Sizes, Span};
 use kn_page::Page;
 use kn_rule::laws::frame_law;
@@ -117,6 +115,7 @@ impl ThreadAlloc {
     /// way, and not at a sweep. `Full` where the request is too long or the search ends without a frame
     /// (`IsFullAt`), `Born` in the turn that stores the object's mark (`IsBornAt`). What each answer
     /// leaves of the caller's view is in `specs/Tells.antt`.
+    #[inline(always)]
     pub fn turn<T: Steps<Page>>(&mut self, steps: &mut T) -> AllocTurn
         requires agrees { Agrees self.old (T.stand steps.old) (T.here steps.old) }
         requires under_way { MayTurn self.old.stage }
@@ -133,6 +132,7 @@ impl ThreadAlloc {
         self.goes_on(steps)
     }
 
+    #[inline(always)]
     fn goes_on<T: Steps<Page>>(&mut self, steps: &mut T) -> AllocTurn
         requires agrees { Agrees self.old (T.stand steps.old) (T.here steps.old) }
         requires under_way { MayTurn self.old.stage }
@@ -163,6 +163,7 @@ impl ThreadAlloc {
         AllocTurn::Full
     }
 
+    #[inline(never)]
     fn returns<T: Steps<Page>>(&mut self, steps: &mut T) -> AllocTurn
         requires agrees { Agrees self.old (T.stand steps.old) (T.here steps.old) }
         requires stage { self.old.stage ≡ Returns }
@@ -178,6 +179,7 @@ impl ThreadAlloc {
         AllocTurn::Moved
     }
 
+    #[inline(never)]
     fn gives_back<T: Steps<Page>>(&mut self, steps: &mut T, frame: u16, word: u64) -> AllocTurn
         requires agrees { Agrees self.old (T.stand steps.old) (T.here steps.old) }
         requires stage { self.old.stage ≡ Refuses frame word }
@@ -195,6 +197,7 @@ impl ThreadAlloc {
         }
     }
 
+    #[inline(always)]
     fn searches<T: Steps<Page>>(&mut self, steps: &mut T) -> AllocTurn
         requires agrees { Agrees self.old (T.stand steps.old) (T.here steps.old) }
         requires stage { self.old.stage ≡ Searches }
@@ -203,11 +206,25 @@ impl ThreadAlloc {
         ensures tells { TellsView self.old.stage result (T.stand steps.old) (T.stand steps.new) }
     {
         let look = self.seeks(steps);
-        self.goes_to(stage_behind(look));
+        self.goes_behind(look);
         answer_of(look)
     }
 
+    // Goes to the stage behind a turn of the search.
+    #[inline(always)]
+    fn goes_behind(&mut self, look: Look)
+        requires look { IsLookRight look }
+        requires stage { self.old.stage ≡ Searches }
+        ensures { self.new ≡ record self.old { stage = stage_behind look } }
+    {
+        match look {
+            Look::Looking => {}
+            _ => self.goes_to(stage_behind(look)),
+        }
+    }
+
     // The search makes its turn.
+    #[inline(always)]
     fn seeks<T: Steps<Page>>(&mut self, steps: &mut T) -> Look
         requires agrees { SearchAgrees self.old.search (T.stand steps.old) }
         requires going { ¬ IsOver self.old.search }
@@ -233,6 +250,7 @@ impl ThreadAlloc {
         self.finder.refuse(FrameNo(frame))
     }
 
+    #[inline(never)]
     fn takes<T: Steps<Page>>(&mut self, steps: &mut T, frame: u16, old: u64) -> AllocTurn
         requires agrees { Agrees self.old (T.stand steps.old) (T.here steps.old) }
         requires stage { self.old.stage ≡ Takes frame old }
@@ -250,6 +268,7 @@ impl ThreadAlloc {
         }
     }
 
+    #[inline(always)]
     fn clears<T: Steps<Page>>(&mut self, steps: &mut T, cell: Span, number: u32) -> AllocTurn
         requires agrees { Agrees self.old (T.stand steps.old) (T.here steps.old) }
         requires stage { self.old.stage ≡ Clears cell number }
@@ -263,8 +282,25 @@ impl ThreadAlloc {
             self.word_at(number),
             Kind::K12,
         );
-        self.goes_to(stage_after(cell, number));
+        self.has_cleared(cell, number);
         AllocTurn::Moved
+    }
+
+    // Goes to the stage behind the clearing of a word.
+    #[inline(always)]
+    fn has_cleared(&mut self, cell: Span, number: u32)
+        requires stage { self.old.stage ≡ Clears cell number }
+        requires within { number < cell.len }
+        ensures { self.new ≡ record self.old { stage = stage_after cell number } }
+    {
+        if number + 1 == cell.len {
+            self.goes_to(Stage::Bears(cell));
+        } else {
+            match &mut self.stage {
+                Stage::Clears(_, number) => *number += 1,
+                _ => unreachable!(),
+            }
+        }
     }
 
     fn bears<T: Steps<Page>>(&mut self, steps: &mut T, cell: Span) -> AllocTurn
@@ -333,6 +369,7 @@ impl ThreadAlloc {
         self.epoch = epoch;
     }
 
+    #[inline(always)]
     pub(crate) fn goes_to(&mut self, stage: Stage)
         ensures { self.new ≡ record self.old { stage = stage } }
     {
@@ -346,6 +383,7 @@ impl ThreadAlloc {
     }
 
     // A word of the cell, when it is cleared.
+    #[inline(always)]
     fn word_at(&self, number: u32) -> u64
         ensures { result ≡ word_at self.now number }
     {

@@ -127,6 +127,7 @@ pub(crate) fn stage_tried(cell: Option<Span>) -> Stage
 }
 
 // The stage behind a turn of the search.
+#[inline(always)]
 pub(crate) fn stage_behind(look: Look) -> Stage
     requires { IsLookRight look }
     ensures { result ≡ Rattle.kn_alloc.specs.Keeps.stage_behind look }
@@ -144,23 +145,12 @@ pub(crate) fn stage_behind(look: Look) -> Stage
     }
 }
 
+#[inline(always)]
 pub(crate) fn answer_of(look: Look) -> AllocTurn
     ensures { result ≡ Turns.answer_of look }
 {
     match look {
         Look::Full => AllocTurn::Full,
         Look::Looking | Look::Found(_, _) => AllocTurn::Moved,
-    }
-}
-
-// The stage behind the clearing of a word of a cell.
-pub(crate) fn stage_after(cell: Span, number: u32) -> Stage
-    requires { number < cell.len }
-    ensures { result ≡ Rattle.kn_alloc.specs.Keeps.stage_after cell number }
-{
-    if number + 1 == cell.len {
-        Stage::Bears(cell)
-    } else {
-        Stage::Clears(cell, number + 1)
     }
 }

@@ -9,6 +9,7 @@ use Rattle.kn_base.specs.declared.places.Place.{Place}
 use Rattle.kn_base.specs.Sizes.{IsGood, frame_count}
 use Rattle.kn_base.specs.Spans.{end_of}
 use Rattle.kn_base.specs.SpanLists.{HasWord, without, StandApart, IsFreeList, IsFreeListOf}
+use Rattle.kn_graph.specs.declared.entries.Entry.{Entry}
 use Rattle.kn_graph.specs.Ground.{Ground, IsGoodGround}
 use Rattle.kn_rule.specs.declared.steps.Kind.TheVariants.{K12}
 use Rattle.kn_rule.specs.declared.steps.Action.{Action}
@@ -109,14 +110,14 @@ module _ (z : Ground) (good : IsGoodGround z) (by : ℕ) (old : Part) (p : Place
           }))
 
       -- and what was made of it is noted
-      pub cut_noted : (f : Found) → f.word ≡ n → (now : Hold) (start : ℕ) → start ≡ (frame_span z.sizes k).start →
+      pub cut_noted : (f : Found) → f.word ≡ n → (history : List Entry) → (now : Hold) (start : ℕ) → start ≡ (frame_span z.sizes k).start →
           now ≡ record was {
             free = record was.free { spans = without span was.free.spans };
             cursor = cond (class == NEXT_FIT_CLASS) (end_of span) start;
           } → (IsFreeListOf (frame_span z.sizes k) was.free.spans → IsFreeListOf (frame_span z.sizes k) now.free.spans) → (new : Part) →
           new ≡ record old { taken = Some (record { frame = k; span = span; cleared = 1 }) } →
-          Noted z by old new holds (slice_set holds k now) None (λ v. outcome z by v p a f K12)
-      cut_noted f e now start first made stays new is =
+          Noted z by old new holds (slice_set holds k now) history history (λ v. outcome z by v p a f K12)
+      cut_noted f e history now start first made stays new is =
           cell_made z by old holds fits p a f asked.call asked.words asked.is_call asked.is_request none k b (sym (ap address_in asks.place))
-          (at ∙ ap (frame_at z.sizes) is_there) near its span class is_cell (ap (λ (q : Span × ℕ). q.1) same) was now was_is start first made
+          (at ∙ ap (frame_at z.sizes) is_there) near its history span class is_cell (ap (λ (q : Span × ℕ). q.1) same) was now was_is start first made
           (stays (subst (λ (h : Hold). IsFreeListOf (frame_span z.sizes k) h.free.spans) (sym was_is) list)) new is

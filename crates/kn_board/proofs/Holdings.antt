@@ -22,7 +22,8 @@ use Rattle.kn_rule.specs.Views.{Open, flattened}
 use Rattle.kn_rule.specs.Steps.{Found}
 use Rattle.kn_rule.specs.Outcomes.{outcome}
 use Rattle.kn_keep_heap.proofs.Changed.{some_is}
-use Rattle.kn_view.specs.Parts.{Part, Makes}
+use Rattle.kn_view.specs.Parts.{Part}
+use Rattle.kn_view.specs.Told.{Makes, Says, told}
 use Rattle.kn_holds.specs.Holds.{Hold, FreeListsAreShort}
 use Rattle.kn_board.specs.Parts.{own_of, is_by}
 use Rattle.kn_board.specs.Stored.{HoldsFit, PagesFit, hold_at, nobody}
@@ -80,17 +81,24 @@ owner z holds fits by k o near e =
     let n = fits.count in
     owner_of by (hold_at holds k) o (hold_at holds k).by (sym (owns_stored by holds k (omega arith)) ∙ e)
 
-module _ (z : Ground) (by : ℕ) (old new : Part) (holds : List Hold) (said : Option Entry) (p : Place) (a : Action) (f : Found) (k k' : Kind)
+module _ (z : Ground) (by : ℕ) (old new : Part) (holds : List Hold) (before after : List Entry) (p : Place) (a : Action) (f : Found) (k k' : Kind)
     (is : k ≡ k') where
   -- what is said of a kind by name
-  pub noted_of : (holds' : List Hold) → Noted z by old new holds holds' said (λ v. outcome z by v p a f k') →
-      Noted z by old new holds holds' said (λ v. outcome z by v p a f k)
-  noted_of holds' h = subst (λ q. Noted z by old new holds holds' said (λ v. outcome z by v p a f q)) (sym is) h
+  pub noted_of : (holds' : List Hold) → Noted z by old new holds holds' before after (λ v. outcome z by v p a f k') →
+      Noted z by old new holds holds' before after (λ v. outcome z by v p a f k)
+  noted_of holds' h = subst (λ q. Noted z by old new holds holds' before after (λ v. outcome z by v p a f q)) (sym is) h
 
   -- a step that changes nothing of frames
-  pub noted_plain : HoldsFit z.sizes holds → Makes z old new said (λ v. outcome z by v p a f k') →
-      Noted z by old new holds holds said (λ v. outcome z by v p a f k)
+  pub noted_plain : HoldsFit z.sizes holds → Says z old new before after (λ v. outcome z by v p a f k') →
+      Noted z by old new holds holds before after (λ v. outcome z by v p a f k)
   noted_plain fits h = noted_of holds (record { mine = λ log. h (map (own_of by) holds) log; others = λ c l n. refl; fits = fits })
+
+-- nor says anything
+pub noted_quietly : (z : Ground) (by : ℕ) (old new : Part) (holds : List Hold) (history : List Entry) (p : Place) (a : Action) (f : Found)
+    (k k' : Kind) (is : k ≡ k') → HoldsFit z.sizes holds → Makes z old new (λ v. outcome z by v p a f k') →
+    Noted z by old new holds holds history history (λ v. outcome z by v p a f k)
+noted_quietly z by old new holds history p a f k k' is fits h =
+    noted_plain z by old new holds history history p a f k k' is fits (λ owned log. ap (told history) (h owned log))
 
 module _ (z : Sizes) (holds : List Hold) (fits : HoldsFit z holds) (k : ℕ) (near : k < frame_count z) (hold : Hold) where
   within : k < length holds

@@ -27,11 +27,11 @@ use Rattle.kn_board.proofs.ViewsAt.{long_from, view_stored}
 use Rattle.kn_board.proofs.MovesSound.{near, moved_sound, moved_told}
 
 module _ {S : Type 0} (page_of : S → FrameView) (z : Ground) (words : List ℕ) (raw : List (Option S)) (known : List Part) (holds : List Hold)
-    (history : List Entry) (room : ℕ) where
+    (history : List Entry) where
   abbrev at : List (Option S) → World
   at l = world_of z words (map (option_map page_of) l) known holds history
 
-  module _ (o : World) (same : at raw ≡ o) (inv : Sound (at raw) × Kept z (map (option_map page_of) raw) known holds history room) (by : ℕ)
+  module _ (o : World) (same : at raw ≡ o) (inv : Sound (at raw) × Kept z (map (option_map page_of) raw) known holds history) (by : ℕ)
       (less : by < callers o.heap.sizes) (k : ℕ) (arg : Option S) (may : MayMove (stand_at by o) (lies_at o) k (option_map page_of arg)) where
     less_now : by < callers z.sizes
     less_now = subst (λ (q : World). by < callers q.heap.sizes) (sym same) less
@@ -82,7 +82,7 @@ module _ {S : Type 0} (page_of : S → FrameView) (z : Ground) (words : List ℕ
           (λ _ e. page_fits x may_now.2 page (sym (ap flattened (get_set_here slots k x near)) ∙ e)) p
           (λ ne l e. inv.1.pages p page l (sym (ap flattened (get_set_else slots k x p ne)) ∙ e)) l e
 
-      pub exchange_sound : Sound (at (slice_set raw k new)) × Kept z (map (option_map page_of) (slice_set raw k new)) known holds history room
+      pub exchange_sound : Sound (at (slice_set raw k new)) × Kept z (map (option_map page_of) (slice_set raw k new)) known holds history
       exchange_sound = (
         subst Sound (sym moved_is) (moved_sound (at raw) inv.0.0 inv.0.1.0 inv.0.1.1 inv.0.1.2 by less_now k (option_map page_of arg) may_now),
         record {
@@ -90,7 +90,6 @@ module _ {S : Type 0} (page_of : S → FrameView) (z : Ground) (words : List ℕ
           frames = inv.1.frames;
           pages = subst (PagesFit z.sizes) (sym set_is) pages_moved;
           made = inv.1.made;
-          history_room = inv.1.history_room;
         },
       )
 

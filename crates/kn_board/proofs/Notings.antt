@@ -21,7 +21,8 @@ use Rattle.kn_rule.specs.Views.{View, Sweep, flattened, owns}
 use Rattle.kn_rule.specs.Requests.{words_asked, class_asked}
 use Rattle.kn_rule.specs.Steps.{Found, Outcome, callers, frame_in, address_in, word_wanted, word_stored, quietly}
 use Rattle.kn_rule.specs.Outcomes.{outcome, claimed_if, sweep_begun, home_at, clear_at, cell_begun, clear_first, open_without}
-use Rattle.kn_view.specs.Parts.{Part, MakesOwning, view_with, said_list}
+use Rattle.kn_view.specs.Parts.{Part, view_with}
+use Rattle.kn_view.specs.Told.{SaysOwning, told}
 use Rattle.kn_holds.specs.Holds.{Hold}
 use Rattle.kn_board.specs.Parts.{own_of}
 use Rattle.kn_board.specs.Stored.{HoldsFit, claimed, hold_at}
@@ -30,13 +31,14 @@ use Rattle.kn_board.specs.Noted.{Noted}
 use Rattle.kn_board.proofs.Holdings.{open_of, own_mine, own_other, own_none, owns_stored, fits_set, mine_set, others_set}
 
 module _ (z : Ground) (by : ℕ) (old : Part) (holds : List Hold) (fits : HoldsFit z.sizes holds) (p : Place) (a : Action) (f : Found) where
-  abbrev Notes : Part → List Hold → Option Entry → (View → Outcome) → Type 0
-  Notes new holds' said o = Noted z by old new holds holds' said o
+  abbrev Notes : Part → List Hold → List Entry → List Entry → (View → Outcome) → Type 0
+  Notes new holds' before after o = Noted z by old new holds holds' before after o
 
   -- a claim that wins
   module _ (slot : Option FrameView) (asks : AsksClaim z by old p a f.word holds slot) (won : f.word ≡ word_wanted a) (k word : ℕ)
       (at : k ≡ frame_in p) (is_word : word ≡ word_stored a) (sweep : Option Sweep)
-      (swept : sweep ≡ sweep_begun z.sizes k (frame_of (word_wanted a)).kind) (list : IsFreeListOf (frame_span z.sizes k) f.page.free) where
+      (swept : sweep ≡ sweep_begun z.sizes k (frame_of (word_wanted a)).kind) (list : IsFreeListOf (frame_span z.sizes k) f.page.free)
+      (history : List Entry) where
     abbrev held : Hold
     held = claimed by word f.page (hold_at holds k)
 
@@ -52,7 +54,7 @@ module _ (z : Ground) (by : ℕ) (old : Part) (holds : List Hold) (fits : HoldsF
     unowned : (c : ℕ) → c < callers z.sizes → own_of c (hold_at holds k) ≡ None
     unowned c l = ap (λ k. own_of c (hold_at holds k)) frame_is ∙ asks.nobody old_is c l
 
-    claim_noted : Notes (record old { sweep = sweep }) (slice_set holds k held) None (λ v. outcome z by v p a f K10)
+    claim_noted : Notes (record old { sweep = sweep }) (slice_set holds k held) history history (λ v. outcome z by v p a f K10)
     claim_noted = record {
       mine = λ log.
           let v : View = view_with z old (map (own_of by) holds) log in
@@ -62,17 +64,18 @@ module _ (z : Ground) (by : ℕ) (old : Part) (holds : List Hold) (fits : HoldsF
           ∙ (λ t. slice_set (map (own_of by) holds) (at t) (Some (record { word = is_word t; free = f.page.free; cursor = f.page.cursor }))) in
           let begun : sweep ≡ sweep_begun z.sizes (frame_in p) (frame_of (word_wanted a)).kind =
           swept ∙ ap (λ k. sweep_begun z.sizes k (frame_of (word_wanted a)).kind) at in
-          (λ t. quietly (record v { owned = owned t; sweep = begun t }))
-          ∙ ap (claimed_if z by v p a f) (sym (eq-eqb f.word (word_wanted a) won));
+          ap (told history)
+          ((λ t. quietly (record v { owned = owned t; sweep = begun t }))
+          ∙ ap (claimed_if z by v p a f) (sym (eq-eqb f.word (word_wanted a) won)));
       others = λ c l n. others_set z.sizes holds fits k near held c (own_other by c held refl n ∙ sym (unowned c l));
       fits = fits_set z.sizes holds fits k near held refl (λ c e. list);
     }
 
     pub claim_made : (new : Part) → new ≡ record old { sweep = sweep } → (holds' : List Hold) → holds' ≡ slice_set holds k held →
-        Notes new holds' None (λ v. outcome z by v p a f K10)
+        Notes new holds' history history (λ v. outcome z by v p a f K10)
     claim_made new e holds' eh =
-        subst (λ q. Notes q holds' None (λ v. outcome z by v p a f K10)) (sym e)
-        (subst (λ h. Notes (record old { sweep = sweep }) h None (λ v. outcome z by v p a f K10)) (sym eh) claim_noted)
+        subst (λ q. Notes q holds' history history (λ v. outcome z by v p a f K10)) (sym e)
+        (subst (λ h. Notes (record old { sweep = sweep }) h history history (λ v. outcome z by v p a f K10)) (sym eh) claim_noted)
 
   -- a frame goes home
   module _ (asks : AsksHome z by old p a f.word holds) (k : ℕ) (at : k ≡ frame_in p) where
@@ -88,19 +91,19 @@ module _ (z : Ground) (by : ℕ) (old : Part) (holds : List Hold) (fits : HoldsF
     its : (hold_at holds k).by ≡ Some by
     its = ap (λ k. (hold_at holds k).by) home_is ∙ asks.owned
 
-    pub home_noted : (new : Part) (said : Option Entry) →
-        MakesOwning z old new said k (Some (open_of (hold_at holds k))) None (λ v. home_at z by v (Frame k) a f old.position) →
-        Notes new (slice_set holds k gone) said (λ v. outcome z by v p a f K11)
-    home_noted new said h =
+    pub home_noted : (new : Part) (before after : List Entry) →
+        SaysOwning z old new before after k (Some (open_of (hold_at holds k))) None (λ v. home_at z by v (Frame k) a f old.position) →
+        Notes new (slice_set holds k gone) before after (λ v. outcome z by v p a f K11)
+    home_noted new before after h =
         let place : Frame k ≡ p = ap Frame home_is ∙ sym asks.at.place in record {
           mine = λ log.
               let v : View = view_with z old (map (own_of by) holds) log in
               let near : k < length holds = let e = fits.count in let l = home_near in omega arith in
               let has : flattened (slice_get (map (own_of by) holds) k) ≡ Some (open_of (hold_at holds k)) =
               owns_stored by holds k near ∙ own_mine by (hold_at holds k) its in
-              ap (λ l. record { view = view_with z new l log; says = said_list said })
+              ap (λ l. record { view = view_with z new l log; history = after })
               (mine_set z.sizes holds fits k home_near gone by None (own_none by gone refl))
-              ∙ (h (map (own_of by) holds) log has ∙ ap (λ q. home_at z by v q a f old.position) place);
+              ∙ (h (map (own_of by) holds) log has ∙ ap (λ q. told before (home_at z by v q a f old.position)) place);
           others = λ c l n. others_set z.sizes holds fits k home_near gone c
               (own_none c gone refl ∙ sym (own_other by c (hold_at holds k) its n));
           fits = fits_set z.sizes holds fits k home_near gone refl
@@ -109,7 +112,8 @@ module _ (z : Ground) (by : ℕ) (old : Part) (holds : List Hold) (fits : HoldsF
 
   -- the first word of a cell is cleared
   module _ (call : Call) (n : ℕ) (is : old.position ≡ Calling call) (asked : words_asked z call ≡ Some n) (none : old.taken ≡ None) (k b : ℕ)
-      (here : b ≡ address_in p) (at : k ≡ frame_at z.sizes b) (near : k < frame_count z.sizes) (its : (hold_at holds k).by ≡ Some by) where
+      (here : b ≡ address_in p) (at : k ≡ frame_at z.sizes b) (near : k < frame_count z.sizes) (its : (hold_at holds k).by ≡ Some by)
+      (history : List Entry) where
     abbrev cell : Span
     cell = record { start = b; len = n }
 
@@ -121,7 +125,7 @@ module _ (z : Ground) (by : ℕ) (old : Part) (holds : List Hold) (fits : HoldsF
 
     pub cell_noted : (start : ℕ) → start ≡ (frame_span z.sizes k).start →
         IsFreeListOf (frame_span z.sizes k) (without cell (hold_at holds k).free.spans) →
-        Notes (record old { taken = Some (record { frame = k; span = cell; cleared = 1 }) }) (slice_set holds k (cut start)) None
+        Notes (record old { taken = Some (record { frame = k; span = cell; cleared = 1 }) }) (slice_set holds k (cut start)) history history
         (λ v. outcome z by v p a f K12)
     cell_noted start first list = record {
       mine = λ log.
@@ -136,9 +140,10 @@ module _ (z : Ground) (by : ℕ) (old : Part) (holds : List Hold) (fits : HoldsF
           let at' : k ≡ frame_at z.sizes (address_in p) = at ∙ ap (frame_at z.sizes) here in
           let cells : cell ≡ cell_begun z by v p a f (words_asked z call) =
           (λ t. record { start = here t; len = n }) ∙ ap (cell_begun z by v p a f) (sym asked) in
-          (λ t. quietly (record v { taken = Some (record { frame = k; span = cell; cleared = 1 }); owned = owned t }))
+          ap (told history)
+          ((λ t. quietly (record v { taken = Some (record { frame = k; span = cell; cleared = 1 }); owned = owned t }))
           ∙ ((λ t. quietly (clear_first z by v p a f (at' t) (class_asked z call) (cells t)))
-          ∙ sym (λ t. clear_at z by v p a f (is t) (none t)));
+          ∙ sym (λ t. clear_at z by v p a f (is t) (none t))));
       others = λ c l ne. others_set z.sizes holds fits k near (cut start) c
           (own_other by c (cut start) its ne ∙ sym (own_other by c (hold_at holds k) its ne));
       fits = fits_set z.sizes holds fits k near (cut start) refl (λ c e. list);
@@ -153,7 +158,7 @@ module _ (z : Ground) (by : ℕ) (old : Part) (holds : List Hold) (fits : HoldsF
           cursor = cond (class == NEXT_FIT_CLASS) (end_of span) start;
         } → IsFreeListOf (frame_span z.sizes k) now.free.spans → (new : Part) →
         new ≡ record old { taken = Some (record { frame = k; span = span; cleared = 1 }) } →
-        Notes new (slice_set holds k now) None (λ v. outcome z by v p a f K12)
+        Notes new (slice_set holds k now) history history (λ v. outcome z by v p a f K12)
     cell_made span class es ec was now ew start first en list new e =
         let now_is : now ≡ cut start = en ∙ (λ t. record (ew t) {
           free = record (ew t).free { spans = without (es t) (ew t).free.spans };
@@ -161,7 +166,7 @@ module _ (z : Ground) (by : ℕ) (old : Part) (holds : List Hold) (fits : HoldsF
         }) in
         let new_is : new ≡ record old { taken = Some (record { frame = k; span = cell; cleared = 1 }) } =
         e ∙ (λ t. record old { taken = Some (record { frame = k; span = es t; cleared = 1 }) }) in
-        subst (λ q. Notes q (slice_set holds k now) None (λ v. outcome z by v p a f K12)) (sym new_is)
-        (subst (λ h. Notes (record old { taken = Some (record { frame = k; span = cell; cleared = 1 }) }) (slice_set holds k h) None
+        subst (λ q. Notes q (slice_set holds k now) history history (λ v. outcome z by v p a f K12)) (sym new_is)
+        (subst (λ h. Notes (record old { taken = Some (record { frame = k; span = cell; cleared = 1 }) }) (slice_set holds k h) history history
         (λ v. outcome z by v p a f K12)) (sym now_is)
         (cell_noted start first (subst (λ (h : Hold). IsFreeListOf (frame_span z.sizes k) h.free.spans) now_is list)))

@@ -1,10 +1,9 @@
 -- What is stored at the start stands for a board at its start.
-use Rattle.std.proofs.Common.{◌≡◌, ℕ, zero, suc, ◌+◌, ◌*◌, ◌<◌, ◌≤◌, List, [], ◌∷◌, length, map, replicate}
+use Rattle.std.proofs.Common.{◌≡◌, ℕ, zero, suc, ◌+◌, ◌<◌, List, [], ◌∷◌, length, map, replicate}
 use Rattle.std.proofs.Common.{option_map, Option, Some}
 use Rattle.std.proofs.Common.{None, false, refl, sym, ap, ◌∙◌, subst, arith}
 use Rattle.std.proofs.Common.{slice_get, slice_index_or}
 use Rattle.std.proofs.lemmas.List.{length-replicate}
-use Rattle.kn_base.specs.declared.limits.TheConstants.{MOST_CALLS}
 use Rattle.kn_base.specs.Sizes.{frame_count}
 use Rattle.kn_base.specs.SpanLists.{IsFreeListOf}
 use Rattle.kn_base.specs.Pages.{FrameView}
@@ -82,10 +81,9 @@ module _ (z : Ground) (good : IsGoodGround z) (holds : List Hold) (none : AreUno
       pub made_is : world_of z words (map (option_map page_of) slots) known holds history ≡ opened z (map page_of pages)
       made_is = λ t. world z (ew t) (slots_are t) (((λ u. views_from z 0 (ek u) holds (eh u)) ∙ new_from 0 (callers z.sizes)) t) (eh t)
 
-      pub made_sound : (room : ℕ) → 2 * MOST_CALLS ≤ room →
-          Sound (world_of z words (map (option_map page_of) slots) known holds history)
-          × Kept z (map (option_map page_of) slots) known holds history room
-      made_sound room enough = (
+      pub made_sound : Sound (world_of z words (map (option_map page_of) slots) known holds history)
+          × Kept z (map (option_map page_of) slots) known holds history
+      made_sound = (
         subst Sound (sym made_is) (opens z good (map page_of pages) whole),
         record {
           wide = λ c l.
@@ -99,6 +97,5 @@ module _ (z : Ground) (good : IsGoodGround z) (holds : List Hold) (none : AreUno
           frames = fits;
           pages = subst (PagesFit z.sizes) (sym slots_are) pages_fit;
           made = subst (Rattle.kn_board.specs.Room.AreMade z.sizes.threads) (sym eh) tt;
-          history_room = enough;
         },
       )

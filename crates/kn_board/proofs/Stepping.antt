@@ -1,12 +1,11 @@
 -- One step of the board, by what is stored.
-use Rattle.std.proofs.Common.{◌≡◌, ◌≢◌, ℕ, ◌+◌, ◌*◌, ◌^◌, ◌<◌, ◌≤◌, ◌⊎◌, inl, inr, Bool, true, List, []}
+use Rattle.std.proofs.Common.{◌≡◌, ℕ, ◌+◌, ◌^◌, ◌<◌, ◌⊎◌, inl, inr, Bool, true, List, []}
 use Rattle.std.proofs.Common.{◌∷◌, length}
 use Rattle.std.proofs.Common.{map, Option, Some, None, is_some}
 use Rattle.std.proofs.Common.{refl, sym, ap, ◌∙◌, subst}
-use Rattle.std.proofs.Common.{slice_set, arith, get_or-set_same, get_or-set_other, length-append}
+use Rattle.std.proofs.Common.{slice_set, arith, get_or-set_same, get_or-set_other}
 use Rattle.kn_base.specs.declared.places.Place.{Place}
 use Rattle.kn_base.specs.declared.places.Place.TheVariants.{Pending}
-use Rattle.kn_base.specs.declared.limits.TheConstants.{MOST_CALLS}
 use Rattle.kn_base.specs.Pages.{FrameView}
 use Rattle.kn_base.proofs.Updates.{split_at}
 use Rattle.kn_graph.specs.declared.entries.Entry.{Entry}
@@ -24,7 +23,7 @@ use Rattle.kn_rule.specs.declared.positions.Position.TheVariants.{Calling}
 use Rattle.kn_rule.specs.declared.steps.Action.TheVariants.{Stores}
 use Rattle.kn_rule.specs.Places.{Within, index}
 use Rattle.kn_rule.specs.Views.{View, State}
-use Rattle.kn_rule.specs.Steps.{Step, Found, Outcome, does, found, callers, frame_in, logged, more, word_wanted, word_after}
+use Rattle.kn_rule.specs.Steps.{Step, Found, does, found, callers, frame_in, logged, more, word_wanted, word_after}
 use Rattle.kn_rule.specs.Outcomes.{outcome, wanted_at, count_at}
 use Rattle.kn_rule.specs.Allowed.{MayBe, MayMake, MayWant, MayCount}
 use Rattle.kn_rule.specs.MarkSteps.{IsMarker, MayMoveSet, MayMoveMark, MayLoadCell, MayReserve}
@@ -32,7 +31,8 @@ use Rattle.kn_rule.specs.Moves.{view_after}
 use Rattle.kn_rule.specs.Rule.{Rule, fresh}
 use Rattle.kn_keep_marking.proofs.Withins.{steps_lie_within}
 use Rattle.kn_steps.specs.Made.{Made}
-use Rattle.kn_view.specs.Parts.{Part, said_list, view_with}
+use Rattle.kn_view.specs.Parts.{Part, view_with}
+use Rattle.kn_view.specs.Told.{IsShort, Told}
 use Rattle.kn_view.specs.Words.{MayLeave}
 use Rattle.kn_holds.specs.Holds.{Hold}
 use Rattle.kn_board.specs.World.{World, world, word_at, slot_at, view_at, lies_at, IsPageFound, StandsFor, Sound, StepsTo, world_after, stand_at}
@@ -71,16 +71,13 @@ pause_made n c e (events.Pause i) h = e
 pause_made n c e _ h = absurd h
 
 -- one entry more
-made_more : (IsSort : Event → Type 0) (n c : ℕ) (h : List Entry) (said : Option Entry) → MaySay n c IsSort ⊎ (said_list said ≡ []) → AreMade n h →
-    IsAtMostOne IsSort c (said_list said) → AreMade n (more h (said_list said))
-made_more IsSort n c h None l a m = a
-made_more IsSort n c h (Some e) (inr l) a m = let x : e ∷ [] ≡ [] = l in absurd (cc)
-made_more IsSort n c [] (Some e) (inl l) a m = (subst (λ i. IsMadeBy n i e.what) (sym m.0) (l e.what m.1), tt)
-made_more IsSort n c (x ∷ h) (Some e) (inl l) a m = (a.0, made_more IsSort n c h (Some e) (inl l) a.1 m)
-
-longer : (h : List Entry) (said : Option Entry) → said ≢ None → length (more h (said_list said)) ≡ length h + 1
-longer h None n = absurd (n refl)
-longer h (Some e) n = length-append h (e ∷ [])
+made_more : (IsSort : Event → Type 0) (n c : ℕ) (h says : List Entry) → MaySay n c IsSort ⊎ (says ≡ []) → AreMade n h →
+    IsAtMostOne IsSort c says → AreMade n (more h says)
+made_more IsSort n c h [] l a m = a
+made_more IsSort n c h (e ∷ []) (inr l) a m = let x : e ∷ [] ≡ [] = l in absurd (cc)
+made_more IsSort n c [] (e ∷ []) (inl l) a m = (subst (λ i. IsMadeBy n i e.what) (sym m.0) (l e.what m.1), tt)
+made_more IsSort n c (x ∷ h) (e ∷ []) (inl l) a m = (a.0, made_more IsSort n c h (e ∷ []) (inl l) a.1 m)
+made_more IsSort n c h (e ∷ x ∷ rest) l a m = absurd m
 
 module _ (z : Ground) (by : ℕ) (v : View) (here : ℕ → Bool) (p : Place) (a : Action) where
   want_quiet : (f : Found) (at : Position) → (wanted_at z by v p a f at).says ≡ []
@@ -185,161 +182,156 @@ module _ (z : Ground) (by : ℕ) (v : View) (here : ℕ → Bool) (p : Place) (a
   page_found n slot e part holds _ m asks = tt
 
 module _ (z : Ground) (words : List ℕ) (slots : List (Option FrameView)) (known : List Part) (holds : List Hold) (history : List Entry)
-    (room : ℕ) where
-  abbrev w : World
-  w = world_of z words slots known holds history
+  where
+    abbrev w : World
+    w = world_of z words slots known holds history
 
-  module _ (sound : Sound (world_of z words slots known holds history)) (kept : Kept z slots known holds history room) (by : ℕ)
-      (less : by < callers z.sizes) (k : Kind) (p : Place) (a : Action)
-      (may : MayMake z by (view_at (world_of z words slots known holds history) by) (lies_at (world_of z words slots known holds history))
-      (does k p a)) where
-    abbrev s : State
-    s = sound.1.0
+    module _ (sound : Sound (world_of z words slots known holds history)) (kept : Kept z slots known holds history) (by : ℕ)
+        (less : by < callers z.sizes) (k : Kind) (p : Place) (a : Action)
+        (may : MayMake z by (view_at (world_of z words slots known holds history) by) (lies_at (world_of z words slots known holds history))
+        (does k p a)) where
+      abbrev s : State
+      s = sound.1.0
 
-    rule : Rule z s
-    rule = sound.1.1
+      rule : Rule z s
+      rule = sound.1.1
 
-    stands : StandsFor w s
-    stands = sound.1.2
+      stands : StandsFor w s
+      stands = sound.1.2
 
-    abbrev part : Part
-    part = part_at z known by
+      abbrev part : Part
+      part = part_at z known by
 
-    pub near_by : by < length known
-    near_by = let e = stands.views in let l = long_from z 0 known holds history in omega arith
+      pub near_by : by < length known
+      near_by = let e = stands.views in let l = long_from z 0 known holds history in omega arith
 
-    stored : (c : ℕ) → c < callers z.sizes → view_at w c ≡ view_of z c (part_at z known c) holds history
-    stored c l = let e = stands.views in let n = long_from z 0 known holds history in view_stored z known holds history c (fresh z) (omega arith)
+      stored : (c : ℕ) → c < callers z.sizes → view_at w c ≡ view_of z c (part_at z known c) holds history
+      stored c l = let e = stands.views in let n = long_from z 0 known holds history in view_stored z known holds history c (fresh z) (omega arith)
 
-    abbrev v : View
-    v = view_of z by part holds history
+      abbrev v : View
+      v = view_of z by part holds history
 
-    view_is : view_at w by ≡ v
-    view_is = stored by less
+      view_is : view_at w by ≡ v
+      view_is = stored by less
 
-    may' : MayBe z by v (lies_at w) k p a
-    may' = subst (λ v. MayBe z by v (lies_at w) k p a) view_is may
+      may' : MayBe z by v (lies_at w) k p a
+      may' = subst (λ v. MayBe z by v (lies_at w) k p a) view_is may
 
-    abbrev n : ℕ
-    n = word_at w p
+      abbrev n : ℕ
+      n = word_at w p
 
-    is : s.caller by ≡ v
-    is = sym (stands.views_are by less) ∙ view_is
+      is : s.caller by ≡ v
+      is = sym (stands.views_are by less) ∙ view_is
 
-    pub within : Within z.sizes p
-    within = steps_lie_within z s by (lies_at w) (does k p a) sound.0 rule (subst (λ v. MayBe z by v (lies_at w) k p a) (sym is) may')
+      pub within : Within z.sizes p
+      within = steps_lie_within z s by (lies_at w) (does k p a) sound.0 rule (subst (λ v. MayBe z by v (lies_at w) k p a) (sym is) may')
 
-    pub leaves : MayLeave a n
-    leaves = leaves_word z by v (lies_at w) p a n has_room k may'
-      where
-        has_room : MayReserve z by v p a → n + 1 < 2 ^ 64
-        has_room m =
-            let found : s.word Pending ≡ n = ap s.word (sym m.place) ∙ sym (stands.words_are p within) in
-            let few = count_small z sound.0 s rule.0 rule.1 by (subst (λ v. IsMarker z by v) (sym is) m.marker) m.child m.mark
-            (ap (λ (v : View). v.work.child) is ∙ m.is_seen) in omega (arith, found, few)
-
-    pub wide : IsWide z.sizes part
-    wide = kept.wide by less
-
-    pub asks : Asks z by part p a n holds (slot_at w (frame_in p)) k
-    asks =
-        asks_by z sound.0 s rule by (lies_at w) part holds (log_of by history) is p a n (sym (stands.words_are p within)) kept.frames (slot_at w)
-        stands.pages_are (λ c l. ap (λ (v : View). v.owned) (sym (stands.views_are c l) ∙ stored c l)) less k may'
-
-    abbrev pub page : FrameView
-    page = page_or (slot_at w (frame_in p))
-
-    pub lies : IsPageFound k (word_wanted a) (found n page) (slot_at w (frame_in p))
-    lies = page_found z by v (lies_at w) p a n (slot_at w) (λ j. refl) part holds k may' asks
-
-    abbrev f : Found
-    f = found n page
-
-    abbrev d : Step
-    d = does k p a
-
-    module _ (part' : Part) (holds' : List Hold) (said : Option Entry)
-        (noted : Noted z by part part' holds holds' said (λ v. outcome z by v p a f k)) where
-      abbrev h' : List Entry
-      h' = more history (said_list said)
-
-      mine : (record { view = view_with z part' (map (own_of by) holds') (log_of by history); says = said_list said }) ≡ outcome z by v p a f k
-      mine = noted.mine (log_of by history)
-
-      left : LeavesOf z by v p a f (IsOfKind k) (outcome z by v p a f k)
-      left = outcome_leaves z by v p a f k
-
-      said_by : IsAtMostOne (IsOfKind k) by (said_list said)
-      said_by = subst (λ (o : Outcome). IsAtMostOne (IsOfKind k) by o.says) (sym mine) left.1
-
-      after_is : view_of z by part' holds' h' ≡ view_after z by (view_at w by) d f
-      after_is =
-          ap (view_with z part' (map (own_of by) holds')) (log_mine (IsOfKind k) by history said said_by)
-          ∙ (ap logged mine ∙ ap (λ v. view_after z by v d f) (sym view_is))
-
-      views_are : views_from z 0 (slice_set known by part') holds' h' ≡ slice_set w.views by (view_after z by (view_at w by) d f)
-      views_are =
-          let e = stands.views in let l = long_from z 0 known holds history in
-          views_set z holds holds' history h' known by part' near_by
-          (λ c a ne. (noted.others c (omega arith) ne, log_other (IsOfKind k) by c history said said_by ne)) ∙ ap (slice_set w.views by) after_is
-
-      history_is : h' ≡ more history (outcome z by (view_at w by) p a f k).says
-      history_is = ap (λ (o : Outcome). more history o.says) mine ∙ ap (λ v. more history (outcome z by v p a f k).says) (sym view_is)
-
-      made_after : AreMade z.sizes.threads h'
-      made_after =
-          made_more (IsOfKind k) z.sizes.threads by history said (spoken (speaker z by v (lies_at w) p a f k may')) kept.made said_by
+      pub leaves : MayLeave a n
+      leaves = leaves_word z by v (lies_at w) p a n has_room k may'
         where
-          spoken : MaySay z.sizes.threads by (IsOfKind k) ⊎ ((outcome z by v p a f k).says ≡ []) →
-              MaySay z.sizes.threads by (IsOfKind k) ⊎ (said_list said ≡ [])
-          spoken (inl l) = inl l
-          spoken (inr e) = inr (ap (λ (o : Outcome). o.says) mine ∙ e)
+          has_room : MayReserve z by v p a → n + 1 < 2 ^ 64
+          has_room m =
+              let found : s.word Pending ≡ n = ap s.word (sym m.place) ∙ sym (stands.words_are p within) in
+              let few = count_small z sound.0 s rule.0 rule.1 by (subst (λ v. IsMarker z by v) (sym is) m.marker) m.child m.mark
+              (ap (λ (v : View). v.work.child) is ∙ m.is_seen) in omega (arith, found, few)
 
-      sound_after : Sound (world_after w by d f)
-      sound_after = step_sound w sound.0 s rule stands by less f d may refl lies
+      pub wide : IsWide z.sizes part
+      wide = kept.wide by less
+
+      pub asks : Asks z by part p a n holds (slot_at w (frame_in p)) k
+      asks =
+          asks_by z sound.0 s rule by (lies_at w) part holds (log_of by history) is p a n (sym (stands.words_are p within)) kept.frames (slot_at w)
+          stands.pages_are (λ c l. ap (λ (v : View). v.owned) (sym (stands.views_are c l) ∙ stored c l)) less k may'
 
       -- there is room for what is said
-      pub room_for : said ≢ None → length history < room
-      room_for some =
-          let after = sound_after.1 in
-          let same : after.0.history ≡ h' = sym after.2.history_is ∙ sym history_is in
-          let short : length after.0.history ≤ 2 * MOST_CALLS =
-          histories_fit z sound.0 after.0 after.1 (subst (λ h. AreMade z.sizes.threads h) (sym same) made_after) in
-          let l : length after.0.history ≡ length h' = ap length same in
-          let m = longer history said some in let most = kept.history_room in omega arith
+      pub short : IsShort history
+      short =
+          subst IsShort (sym stands.history_is)
+          (histories_fit z sound.0 s rule (subst (AreMade z.sizes.threads) stands.history_is kept.made))
 
-      wide_after : IsWide z.sizes part'
-      wide_after = (
-        ap (λ (o : Outcome). length o.view.seen) mine ∙ (left.0 wide).0,
-        ap (λ (o : Outcome). length o.view.refused) mine ∙ (left.0 wide).1,
-        ap (λ (o : Outcome). length o.view.collecting.counted) mine ∙ (left.0 wide).2,
-        ap (λ (o : Outcome). length o.view.collecting.ended) mine ∙ (left.0 wide).3,
-      )
+      abbrev pub page : FrameView
+      page = page_or (slot_at w (frame_in p))
 
-      pub kept_after : (room' : ℕ) → room ≤ room' → Kept z slots (slice_set known by part') holds' h' room'
-      kept_after room' l = record {
-        wide = λ c near. split_at (λ c. c < callers z.sizes → IsWide z.sizes (part_at z (slice_set known by part') c)) by
-            (λ _. subst (IsWide z.sizes) (sym (get_or-set_same known by part' _ near_by)) wide_after) c
-            (λ ne near. subst (IsWide z.sizes) (sym (get_or-set_other known by c part' _ (λ e. ne (sym e)))) (kept.wide c near)) near;
-        frames = noted.fits;
-        pages = kept.pages;
-        made = made_after;
-        history_room = let m = kept.history_room in omega arith;
-      }
+      pub lies : IsPageFound k (word_wanted a) (found n page) (slot_at w (frame_in p))
+      lies = page_found z by v (lies_at w) p a n (slot_at w) (λ j. refl) part holds k may' asks
 
-      module _ (i new : ℕ) (ei : i ≡ index z.sizes p) (en : new ≡ word_after a n) where
-        world_is : world_of z (slice_set words i new) slots (slice_set known by part') holds' h' ≡ world_after w by d f
-        world_is = λ t. world z (slice_set words (ei t) (en t)) slots (views_are t) (history_is t)
+      abbrev f : Found
+      f = found n page
 
-        pub sound_now : Sound (world_of z (slice_set words i new) slots (slice_set known by part') holds' h')
-        sound_now = subst Sound (sym world_is) sound_after
+      abbrev d : Step
+      d = does k p a
 
-        pub steps_now : StepsTo w by d f (world_of z (slice_set words i new) slots (slice_set known by part') holds' h')
-        steps_now = (world_is, refl, lies)
+      module _ (part' : Part) (holds' : List Hold) (h' : List Entry)
+          (noted : Noted z by part part' holds holds' history h' (λ v. outcome z by v p a f k)) where
+        abbrev says : List Entry
+        says = (outcome z by v p a f k).says
 
-        pub made_now : Made (stand_at by w) (lies_at w) d f
-            (stand_at by (world_of z (slice_set words i new) slots (slice_set known by part') holds' h'))
-            (lies_at (world_of z (slice_set words i new) slots (slice_set known by part') holds' h'))
-        made_now =
-            subst (λ q. Made (stand_at by w) (lies_at w) d f (stand_at by q) (lies_at q)) (sym world_is)
-            (step_made w sound.0 s rule stands by less f d may refl lies)
+        mine : view_with z part' (map (own_of by) holds') (log_of by history) ≡ (outcome z by v p a f k).view
+        mine = ap (λ (t : Told). t.view) (noted.mine (log_of by history))
+
+        told_is : h' ≡ more history says
+        told_is = ap (λ (t : Told). t.history) (noted.mine (log_of by history))
+
+        left : LeavesOf z by v p a f (IsOfKind k) (outcome z by v p a f k)
+        left = outcome_leaves z by v p a f k
+
+        said_by : IsAtMostOne (IsOfKind k) by says
+        said_by = left.1
+
+        after_is : view_of z by part' holds' h' ≡ view_after z by (view_at w by) d f
+        after_is =
+            ap (view_with z part' (map (own_of by) holds')) (ap (log_of by) told_is ∙ log_mine (IsOfKind k) by history says said_by)
+            ∙ (ap (λ u. logged (record { view = u; says = says })) mine ∙ ap (λ v. view_after z by v d f) (sym view_is))
+
+        views_are : views_from z 0 (slice_set known by part') holds' h' ≡ slice_set w.views by (view_after z by (view_at w by) d f)
+        views_are =
+            let e = stands.views in let l = long_from z 0 known holds history in
+            views_set z holds holds' history h' known by part' near_by
+            (λ c a ne. (noted.others c (omega arith) ne, ap (log_of c) told_is ∙ log_other (IsOfKind k) by c history says said_by ne))
+            ∙ ap (slice_set w.views by) after_is
+
+        history_is : h' ≡ more history (outcome z by (view_at w by) p a f k).says
+        history_is = told_is ∙ ap (λ v. more history (outcome z by v p a f k).says) (sym view_is)
+
+        made_after : AreMade z.sizes.threads h'
+        made_after =
+            subst (AreMade z.sizes.threads) (sym told_is)
+            (made_more (IsOfKind k) z.sizes.threads by history says (speaker z by v (lies_at w) p a f k may') kept.made said_by)
+
+        sound_after : Sound (world_after w by d f)
+        sound_after = step_sound w sound.0 s rule stands by less f d may refl lies
+
+        wide_after : IsWide z.sizes part'
+        wide_after = (
+          ap (λ (u : View). length u.seen) mine ∙ (left.0 wide).0,
+          ap (λ (u : View). length u.refused) mine ∙ (left.0 wide).1,
+          ap (λ (u : View). length u.collecting.counted) mine ∙ (left.0 wide).2,
+          ap (λ (u : View). length u.collecting.ended) mine ∙ (left.0 wide).3,
+        )
+
+        pub kept_after : Kept z slots (slice_set known by part') holds' h'
+        kept_after = record {
+          wide = λ c near. split_at (λ c. c < callers z.sizes → IsWide z.sizes (part_at z (slice_set known by part') c)) by
+              (λ _. subst (IsWide z.sizes) (sym (get_or-set_same known by part' _ near_by)) wide_after) c
+              (λ ne near. subst (IsWide z.sizes) (sym (get_or-set_other known by c part' _ (λ e. ne (sym e)))) (kept.wide c near)) near;
+          frames = noted.fits;
+          pages = kept.pages;
+          made = made_after;
+        }
+
+        module _ (i new : ℕ) (ei : i ≡ index z.sizes p) (en : new ≡ word_after a n) where
+          world_is : world_of z (slice_set words i new) slots (slice_set known by part') holds' h' ≡ world_after w by d f
+          world_is = λ t. world z (slice_set words (ei t) (en t)) slots (views_are t) (history_is t)
+
+          pub sound_now : Sound (world_of z (slice_set words i new) slots (slice_set known by part') holds' h')
+          sound_now = subst Sound (sym world_is) sound_after
+
+          pub steps_now : StepsTo w by d f (world_of z (slice_set words i new) slots (slice_set known by part') holds' h')
+          steps_now = (world_is, refl, lies)
+
+          pub made_now : Made (stand_at by w) (lies_at w) d f
+              (stand_at by (world_of z (slice_set words i new) slots (slice_set known by part') holds' h'))
+              (lies_at (world_of z (slice_set words i new) slots (slice_set known by part') holds' h'))
+          made_now =
+              subst (λ q. Made (stand_at by w) (lies_at w) d f (stand_at by q) (lies_at q)) (sym world_is)
+              (step_made w sound.0 s rule stands by less f d may refl lies)

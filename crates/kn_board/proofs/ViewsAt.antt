@@ -1,6 +1,6 @@
 -- The views by what is stored, one caller's part changed.
-use Rattle.std.proofs.Common.{◌≡◌, ◌≢◌, ℕ, zero, suc, ◌+◌, ◌<◌, ◌≤◌, cond, List, [], ◌∷◌, ◌++◌, length, map, Option, Some}
-use Rattle.std.proofs.Common.{None, refl, sym, ap, ◌∙◌, arith}
+use Rattle.std.proofs.Common.{◌≡◌, ◌≢◌, ℕ, zero, suc, ◌+◌, ◌<◌, ◌≤◌, cond, List, [], ◌∷◌, ◌++◌, length, map}
+use Rattle.std.proofs.Common.{refl, sym, ap, ◌∙◌, arith}
 use Rattle.std.proofs.Common.{slice_set, slice_index_or, eq-eqb, ne_eqb}
 use Rattle.kn_graph.specs.declared.entries.Entry.{Entry}
 use Rattle.kn_graph.specs.declared.entries.Event.{Event}
@@ -9,25 +9,27 @@ use Rattle.kn_graph.specs.Logs.{log_of}
 use Rattle.kn_graph.proofs.Splits.{log_of-append}
 use Rattle.kn_rule.specs.Views.{View}
 use Rattle.kn_rule.specs.Steps.{more}
-use Rattle.kn_view.specs.Parts.{Part, said_list, view_with}
+use Rattle.kn_view.specs.Parts.{Part, view_with}
 use Rattle.kn_holds.specs.Holds.{Hold}
 use Rattle.kn_board.specs.Parts.{own_of, view_of, views_from}
 use Rattle.kn_board.specs.Room.{IsAtMostOne}
 use Rattle.kn_board.specs.Stored.{part_at}
 
 -- what a step says comes to its caller's log
-pub log_mine : (IsSort : Event → Type 0) (by : ℕ) (h : List Entry) (said : Option Entry) → IsAtMostOne IsSort by (said_list said) →
-    log_of by (more h (said_list said)) ≡ more (log_of by h) (said_list said)
-log_mine IsSort by h None m = refl
-log_mine IsSort by h (Some e) m =
+pub log_mine : (IsSort : Event → Type 0) (by : ℕ) (h says : List Entry) → IsAtMostOne IsSort by says →
+    log_of by (more h says) ≡ more (log_of by h) says
+log_mine IsSort by h [] m = refl
+log_mine IsSort by h (e ∷ []) m =
     log_of-append by h e ∙ ap (λ b. cond b (log_of by h ++ e ∷ []) (log_of by h)) (eq-eqb e.by.0 by m.0)
+log_mine IsSort by h (e ∷ x ∷ rest) m = absurd m
 
 -- and to no other
-pub log_other : (IsSort : Event → Type 0) (by c : ℕ) (h : List Entry) (said : Option Entry) → IsAtMostOne IsSort by (said_list said) → by ≢ c →
-    log_of c (more h (said_list said)) ≡ log_of c h
-log_other IsSort by c h None m n = refl
-log_other IsSort by c h (Some e) m n =
+pub log_other : (IsSort : Event → Type 0) (by c : ℕ) (h says : List Entry) → IsAtMostOne IsSort by says → by ≢ c →
+    log_of c (more h says) ≡ log_of c h
+log_other IsSort by c h [] m n = refl
+log_other IsSort by c h (e ∷ []) m n =
     log_of-append c h e ∙ ap (λ b. cond b (log_of c h ++ e ∷ []) (log_of c h)) (ne_eqb e.by.0 c (λ i. n (sym m.0 ∙ i)))
+log_other IsSort by c h (e ∷ x ∷ rest) m n = absurd m
 
 module _ (z : Ground) where
   pub long_from : (n : ℕ) (parts : List Part) (holds : List Hold) (h : List Entry) → length (views_from z n parts holds h) ≡ length parts

@@ -1,7 +1,6 @@
 -- What a board keeps of what it stores.
-use Rattle.std.specs.Prelude.{◌≡◌, ℕ, ◌*◌, ◌<◌, ◌≤◌, List, [], length, Option, Some, None, slice_get, slice_index_or}
+use Rattle.std.specs.Prelude.{◌≡◌, ℕ, ◌<◌, List, [], length, Option, Some, None, slice_get, slice_index_or}
 use Rattle.kn_base.specs.declared.heap.Sizes.{Sizes}
-use Rattle.kn_base.specs.declared.limits.TheConstants.{MOST_CALLS}
 use Rattle.kn_base.specs.Sizes.{frame_count}
 use Rattle.kn_base.specs.SpanLists.{IsFreeListOf}
 use Rattle.kn_base.specs.Pages.{FrameView}
@@ -50,11 +49,10 @@ abbrev pub PagesFit : Sizes → List (Option FrameView) → Type 0
 PagesFit z slots = (p : ℕ) (page : FrameView) → p < frame_count z → flattened (slice_get slots p) ≡ Some page →
     IsFreeListOf (frame_span z p) page.free
 
--- what is stored has its room, and the history has room for all calls and as many pauses
+-- what is stored has its room, and the history is of calls and pauses
 pub record Kept (z : Ground) (slots : List (Option FrameView)) (known : List Part) (holds : List Hold) (history : List Entry)
-    (room : ℕ) : Type 0 where
+    : Type 0 where
   pub wide : (c : ℕ) → c < callers z.sizes → IsWide z.sizes (part_at z known c)
   pub frames : HoldsFit z.sizes holds
   pub pages : PagesFit z.sizes slots
   pub made : AreMade z.sizes.threads history
-  pub history_room : 2 * MOST_CALLS ≤ room

@@ -1,7 +1,8 @@
 //! What a claim, a frame that goes home and a word of a cell make of what is stored.
-ghost use Rattle.std.specs.Prelude.{◌≡◌, ◌<◌, ◌≤◌, length, map, option_map, slice_get, slice_set, Some, None};
+ghost use Rattle.std.specs.Prelude.{◌≡◌, ◌<◌, ◌≤◌, List, length, map, option_map, slice_get, slice_set, Some, None};
 ghost use Rattle.kn_base.specs.Sizes.{IsGood};
 ghost use Rattle.kn_base.specs.Pages.{FrameView};
+ghost use Rattle.kn_graph.specs.declared.entries.Entry.{Entry};
 ghost use Rattle.kn_graph.specs.Ground.{IsGoodGround};
 ghost use Rattle.kn_rule.specs.declared.steps.Kind.TheVariants.{K10, K11, K12};
 ghost use Rattle.kn_rule.specs.Decoding.{frame_of};
@@ -11,6 +12,7 @@ ghost use Rattle.kn_rule.specs.Steps.{found, word_wanted};
 ghost use Rattle.kn_rule.specs.Views.{flattened};
 ghost use Rattle.kn_view.specs.Looks.{sweep_from};
 ghost use Rattle.kn_view.specs.Parts.{ground_of};
+ghost use Rattle.kn_view.specs.Told.{IsShort};
 ghost use Rattle.kn_board.specs.Asks.{AsksCell, AsksClaim, AsksClear, AsksHome};
 ghost use Rattle.kn_board.specs.Noted.{Noted};
 ghost use Rattle.kn_board.specs.Stored.{HoldsFit, IsWide, PagesFit, claimed, hold_at};
@@ -19,12 +21,11 @@ ghost use Rattle.kn_board.specs.World.{IsPageFound};
 use crate::spans::{frame_with, span_of};
 use crate::step::{StepFound, address_in, frame_in};
 use kn_base::{FramePage, Sizes};
-use kn_graph::Entry;
 use kn_holds::FrameHold;
 use kn_holds::laws::{cell_law, length_law};
 use kn_layout::Layout;
 use kn_rule::class_of;
-use kn_view::{Known, stored_by, wanted_by};
+use kn_view::{History, Known, stored_by, wanted_by};
 
 const KIND: u64 = 1 << 56;
 
@@ -34,9 +35,11 @@ pub fn claims<P: FramePage>(
     layouts: &[Layout],
     known: &mut Known,
     holds: &mut Vec<FrameHold>,
+    history: &mut History,
     slots: &[Option<P>],
     step: StepFound,
-) -> Option<Entry>
+)
+    requires short { IsShort history.old }
     requires good { IsGoodGround (ground_of sizes.now layouts.now) }
     requires wide { IsWide sizes.now known.old }
     requires fits { HoldsFit sizes.now holds.old.items }
@@ -46,18 +49,18 @@ pub fn claims<P: FramePage>(
     ensures { let z = ground_of sizes.now layouts.now in (page : FrameView) →
         IsPageFound K10 (word_wanted step.act) (found step.word page)
         (flattened (slice_get (map (option_map P.page) slots.now) (Rattle.kn_rule.specs.Steps.frame_in step.place))) →
-        Noted z step.by known.old known.new holds.old.items holds.new.items result
+        Noted z step.by known.old known.new holds.old.items holds.new.items history.old history.new
         (λ v. outcome z step.by v step.place step.act (found step.word page) K10) }
 {
     let frame = frame_in(step.place);
     let wanted = wanted_by(step.act);
     if step.word != wanted {
-        return known.looks_at(sizes, layouts, step.by, frame, step.word);
+        known.looks_at(history, sizes, layouts, step.by, frame, step.word);
+        return;
     }
     length_law();
     owns(holds, slots, frame, step.by, stored_by(step.act));
     known.begins_sweep(frame, sweep_start(sizes, frame, wanted));
-    None
 }
 
 // The frame is owned, with the page in its slot.
@@ -99,14 +102,16 @@ pub fn puts_home(
     layouts: &[Layout],
     known: &mut Known,
     holds: &mut Vec<FrameHold>,
+    history: &mut History,
     step: StepFound,
-) -> Option<Entry>
+)
+    requires short { IsShort history.old }
     requires good { IsGoodGround (ground_of sizes.now layouts.now) }
     requires wide { IsWide sizes.now known.old }
     requires fits { HoldsFit sizes.now holds.old.items }
     requires asks { AsksHome (ground_of sizes.now layouts.now) step.by known.old step.place step.act step.word holds.old.items }
     ensures { let z = ground_of sizes.now layouts.now in (page : FrameView) →
-        Noted z step.by known.old known.new holds.old.items holds.new.items result
+        Noted z step.by known.old known.new holds.old.items holds.new.items history.old history.new
         (λ v. outcome z step.by v step.place step.act (found step.word page) K11) }
 {
     let frame = frame_in(step.place);
@@ -114,13 +119,14 @@ pub fn puts_home(
     let hold = &mut holds[frame as usize];
     hold.let_go();
     known.puts_home(
+        history,
         sizes,
         layouts,
         step.by,
         frame,
         (home, class_of(hold.word())),
         hold.spans(),
-    )
+    );
 }
 
 /// A word of a cell is cleared: the first one, which takes the cell out of its frame, or the next.
@@ -134,8 +140,8 @@ pub fn clears(
     requires good { IsGoodGround (ground_of sizes.now layouts.now) }
     requires fits { HoldsFit sizes.now holds.old.items }
     requires asks { AsksClear (ground_of sizes.now layouts.now) step.by known.old step.place step.act step.word holds.old.items }
-    ensures { let z = ground_of sizes.now layouts.now in (page : FrameView) →
-        Noted z step.by known.old known.new holds.old.items holds.new.items None
+    ensures { let z = ground_of sizes.now layouts.now in (page : FrameView) (history : List Entry) →
+        Noted z step.by known.old known.new holds.old.items holds.new.items history history
         (λ v. outcome z step.by v step.place step.act (found step.word page) K12) }
 {
     match known.taken() {
@@ -155,8 +161,8 @@ fn begins_cell(
     requires fits { HoldsFit sizes.now holds.old.items }
     requires none { known.old.taken ≡ None }
     requires asks { AsksClear (ground_of sizes.now layouts.now) step.by known.old step.place step.act step.word holds.old.items }
-    ensures { let z = ground_of sizes.now layouts.now in (page : FrameView) →
-        Noted z step.by known.old known.new holds.old.items holds.new.items None
+    ensures { let z = ground_of sizes.now layouts.now in (page : FrameView) (history : List Entry) →
+        Noted z step.by known.old known.new holds.old.items holds.new.items history history
         (λ v. outcome z step.by v step.place step.act (found step.word page) K12) }
 {
     let address = address_in(step.place);

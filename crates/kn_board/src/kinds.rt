@@ -7,28 +7,42 @@ ghost use Rattle.kn_rule.specs.declared.steps.Kind.TheVariants.{K13, K14, K15, K
 ghost use Rattle.kn_rule.specs.declared.steps.Kind.TheVariants.{K17, K18, K19, K20, K21, K22, K23, K24};
 ghost use Rattle.kn_rule.specs.Outcomes.{outcome};
 ghost use Rattle.kn_rule.specs.Steps.{found};
-ghost use Rattle.kn_view.specs.Parts.{IsReadable, Makes, ground_of};
+ghost use Rattle.kn_view.specs.Parts.{IsReadable, ground_of};
 ghost use Rattle.kn_board.specs.Asks.{AsksBirth, AsksFrame, AsksGlobal, AsksLoadState, AsksPhase, AsksPoll, AsksState, AsksWrite};
 ghost use Rattle.kn_board.specs.Asks.{AsksGray, AsksMark, AsksSet};
 ghost use Rattle.kn_view.specs.Shares.{IsCellRead, IsRootRead, MayOwe};
+ghost use Rattle.kn_view.specs.Told.{IsShort, Makes, Says};
 ghost use Rattle.kn_board.specs.Stored.{IsWide};
 
 use crate::step::{StepFound, address_in, frame_in, local_in, mutator_in, next_of, set_in};
 use kn_base::Sizes;
-use kn_graph::Entry;
 use kn_layout::Layout;
-use kn_view::{Known, stored_by};
+use kn_view::{History, Known, stored_by};
 
 /// A poll.
 #[inline(always)]
-pub fn polls(sizes: &Sizes, layouts: &[Layout], known: &mut Known, step: StepFound) -> Option<Entry>
+pub fn polls(
+    sizes: &Sizes,
+    layouts: &[Layout],
+    known: &mut Known,
+    history: &mut History,
+    step: StepFound,
+)
     requires good { IsGoodGround (ground_of sizes.now layouts.now) }
     requires wide { IsWide sizes.now known.old }
     requires asks { AsksPoll (ground_of sizes.now layouts.now) step.by known.old step.place step.act step.word }
+    requires short { IsShort history.old }
     ensures { let z = ground_of sizes.now layouts.now in (page : FrameView) →
-        Makes z known.old known.new result (λ v. outcome z step.by v step.place step.act (found step.word page) K1) }
+        Says z known.old known.new history.old history.new (λ v. outcome z step.by v step.place step.act (found step.word page) K1) }
 {
-    known.polls(sizes, layouts, step.by, step.word, next_of(step.act))
+    known.polls(
+        history,
+        sizes,
+        layouts,
+        step.by,
+        step.word,
+        next_of(step.act),
+    );
 }
 
 /// A store of the state.
@@ -36,7 +50,7 @@ pub fn polls(sizes: &Sizes, layouts: &[Layout], known: &mut Known, step: StepFou
 pub fn goes(sizes: &Sizes, layouts: &[Layout], known: &mut Known, step: StepFound)
     requires { AsksState (ground_of sizes.now layouts.now) step.by known.old step.place step.act step.word }
     ensures { let z = ground_of sizes.now layouts.now in (page : FrameView) →
-        Makes z known.old known.new None (λ v. outcome z step.by v step.place step.act (found step.word page) K2) }
+        Makes z known.old known.new (λ v. outcome z step.by v step.place step.act (found step.word page) K2) }
 {
     known.stores_state(stored_by(step.act));
 }
@@ -47,23 +61,37 @@ pub fn writes(
     sizes: &Sizes,
     layouts: &[Layout],
     known: &mut Known,
+    history: &mut History,
     step: StepFound,
-) -> Option<Entry>
-    requires { AsksWrite (ground_of sizes.now layouts.now) step.by known.old step.place step.act step.word }
+)
+    requires asks { AsksWrite (ground_of sizes.now layouts.now) step.by known.old step.place step.act step.word }
+    requires short { IsShort history.old }
     ensures { let z = ground_of sizes.now layouts.now in (page : FrameView) →
-        Makes z known.old known.new result (λ v. outcome z step.by v step.place step.act (found step.word page) K3) }
+        Says z known.old known.new history.old history.new (λ v. outcome z step.by v step.place step.act (found step.word page) K3) }
 {
-    known.writes_local(step.by, local_in(step.place), stored_by(step.act) as u32)
+    known.writes_local(
+        history,
+        step.by,
+        local_in(step.place),
+        stored_by(step.act) as u32,
+    );
 }
 
 /// A load of a header or of a field.
 #[inline(always)]
-pub fn loads(sizes: &Sizes, layouts: &[Layout], known: &mut Known, step: StepFound) -> Option<Entry>
-    requires { IsReadable known.old step.word }
+pub fn loads(
+    sizes: &Sizes,
+    layouts: &[Layout],
+    known: &mut Known,
+    history: &mut History,
+    step: StepFound,
+)
+    requires asks { IsReadable known.old step.word }
+    requires short { IsShort history.old }
     ensures { let z = ground_of sizes.now layouts.now in (page : FrameView) →
-        Makes z known.old known.new result (λ v. outcome z step.by v step.place step.act (found step.word page) K4) }
+        Says z known.old known.new history.old history.new (λ v. outcome z step.by v step.place step.act (found step.word page) K4) }
 {
-    known.loads_body(layouts, step.by, step.word)
+    known.loads_body(history, layouts, step.by, step.word);
 }
 
 /// A store of a field or of a global.
@@ -72,53 +100,83 @@ pub fn stores(
     sizes: &Sizes,
     layouts: &[Layout],
     known: &mut Known,
+    history: &mut History,
     step: StepFound,
-) -> Option<Entry>
+)
+    requires { IsShort history.old }
     ensures field { let z = ground_of sizes.now layouts.now in (page : FrameView) →
-        Makes z known.old known.new result (λ v. outcome z step.by v step.place step.act (found step.word page) K5) }
+        Says z known.old known.new history.old history.new (λ v. outcome z step.by v step.place step.act (found step.word page) K5) }
     ensures global { let z = ground_of sizes.now layouts.now in (page : FrameView) →
-        Makes z known.old known.new result (λ v. outcome z step.by v step.place step.act (found step.word page) K7) }
+        Says z known.old known.new history.old history.new (λ v. outcome z step.by v step.place step.act (found step.word page) K7) }
 {
-    known.stores_word(step.by)
+    known.stores_word(history, step.by);
 }
 
 /// A load of a global.
 #[inline(always)]
-pub fn reads(sizes: &Sizes, layouts: &[Layout], known: &mut Known, step: StepFound) -> Option<Entry>
-    requires { AsksGlobal (ground_of sizes.now layouts.now) step.by known.old step.place step.act step.word }
+pub fn reads(
+    sizes: &Sizes,
+    layouts: &[Layout],
+    known: &mut Known,
+    history: &mut History,
+    step: StepFound,
+)
+    requires asks { AsksGlobal (ground_of sizes.now layouts.now) step.by known.old step.place step.act step.word }
+    requires short { IsShort history.old }
     ensures { let z = ground_of sizes.now layouts.now in (page : FrameView) →
-        Makes z known.old known.new result (λ v. outcome z step.by v step.place step.act (found step.word page) K6) }
+        Says z known.old known.new history.old history.new (λ v. outcome z step.by v step.place step.act (found step.word page) K6) }
 {
-    known.loads_global(step.by, step.word as u32)
+    known.loads_global(history, step.by, step.word as u32);
 }
 
 /// A birth.
 #[inline(always)]
-pub fn bears(sizes: &Sizes, layouts: &[Layout], known: &mut Known, step: StepFound) -> Option<Entry>
-    requires { AsksBirth (ground_of sizes.now layouts.now) step.by known.old step.place step.act step.word }
+pub fn bears(
+    sizes: &Sizes,
+    layouts: &[Layout],
+    known: &mut Known,
+    history: &mut History,
+    step: StepFound,
+)
+    requires asks { AsksBirth (ground_of sizes.now layouts.now) step.by known.old step.place step.act step.word }
+    requires short { IsShort history.old }
     ensures { let z = ground_of sizes.now layouts.now in (page : FrameView) →
-        Makes z known.old known.new result (λ v. outcome z step.by v step.place step.act (found step.word page) K8) }
+        Says z known.old known.new history.old history.new (λ v. outcome z step.by v step.place step.act (found step.word page) K8) }
 {
-    known.makes_object(step.by, address_in(step.place))
+    known.makes_object(history, step.by, address_in(step.place));
 }
 
 /// A look at a frame.
 #[inline(always)]
-pub fn looks(sizes: &Sizes, layouts: &[Layout], known: &mut Known, step: StepFound) -> Option<Entry>
+pub fn looks(
+    sizes: &Sizes,
+    layouts: &[Layout],
+    known: &mut Known,
+    history: &mut History,
+    step: StepFound,
+)
     requires good { IsGoodGround (ground_of sizes.now layouts.now) }
     requires wide { IsWide sizes.now known.old }
     requires asks { AsksFrame (ground_of sizes.now layouts.now) step.by known.old step.place step.act step.word }
+    requires short { IsShort history.old }
     ensures { let z = ground_of sizes.now layouts.now in (page : FrameView) →
-        Makes z known.old known.new result (λ v. outcome z step.by v step.place step.act (found step.word page) K9) }
+        Says z known.old known.new history.old history.new (λ v. outcome z step.by v step.place step.act (found step.word page) K9) }
 {
-    known.looks_at(sizes, layouts, step.by, frame_in(step.place), step.word)
+    known.looks_at(
+        history,
+        sizes,
+        layouts,
+        step.by,
+        frame_in(step.place),
+        step.word,
+    );
 }
 
 /// A raise of the epoch wanted, or a load of it.
 #[inline(always)]
 pub fn wants(sizes: &Sizes, layouts: &[Layout], known: &mut Known, step: StepFound)
     ensures { let z = ground_of sizes.now layouts.now in (page : FrameView) →
-        Makes z known.old known.new None (λ v. outcome z step.by v step.place step.act (found step.word page) K13) }
+        Makes z known.old known.new (λ v. outcome z step.by v step.place step.act (found step.word page) K13) }
 {
     known.wants(step.word);
 }
@@ -129,14 +187,16 @@ pub fn stores_phase(
     sizes: &Sizes,
     layouts: &[Layout],
     known: &mut Known,
+    history: &mut History,
     step: StepFound,
-) -> Option<Entry>
+)
     requires wide { IsWide sizes.now known.old }
     requires asks { AsksPhase (ground_of sizes.now layouts.now) step.by known.old step.place step.act step.word }
+    requires short { IsShort history.old }
     ensures { let z = ground_of sizes.now layouts.now in (page : FrameView) →
-        Makes z known.old known.new result (λ v. outcome z step.by v step.place step.act (found step.word page) K14) }
+        Says z known.old known.new history.old history.new (λ v. outcome z step.by v step.place step.act (found step.word page) K14) }
 {
-    known.stores_phase(step.by, stored_by(step.act))
+    known.stores_phase(history, step.by, stored_by(step.act));
 }
 
 /// A load of a mutator's state.
@@ -145,7 +205,7 @@ pub fn loads_state(sizes: &Sizes, layouts: &[Layout], known: &mut Known, step: S
     requires wide { IsWide sizes.now known.old }
     requires asks { AsksLoadState (ground_of sizes.now layouts.now) step.by known.old step.place step.act step.word }
     ensures { let z = ground_of sizes.now layouts.now in (page : FrameView) →
-        Makes z known.old known.new None (λ v. outcome z step.by v step.place step.act (found step.word page) K15) }
+        Makes z known.old known.new (λ v. outcome z step.by v step.place step.act (found step.word page) K15) }
 {
     known.loads_state(mutator_in(step.place), step.word);
 }
@@ -154,7 +214,7 @@ pub fn loads_state(sizes: &Sizes, layouts: &[Layout], known: &mut Known, step: S
 #[inline(always)]
 pub fn counts_work(sizes: &Sizes, layouts: &[Layout], known: &mut Known, step: StepFound)
     ensures { let z = ground_of sizes.now layouts.now in (page : FrameView) →
-        Makes z known.old known.new None (λ v. outcome z step.by v step.place step.act (found step.word page) K16) }
+        Makes z known.old known.new (λ v. outcome z step.by v step.place step.act (found step.word page) K16) }
 {
     known.counts_work(step.act, step.word);
 }
@@ -164,7 +224,7 @@ pub fn counts_work(sizes: &Sizes, layouts: &[Layout], known: &mut Known, step: S
 pub fn moves_set(sizes: &Sizes, layouts: &[Layout], known: &mut Known, step: StepFound)
     requires { AsksSet (ground_of sizes.now layouts.now) step.by known.old step.place step.act step.word }
     ensures { let z = ground_of sizes.now layouts.now in (page : FrameView) →
-        Makes z known.old known.new None (λ v. outcome z step.by v step.place step.act (found step.word page) K17) }
+        Makes z known.old known.new (λ v. outcome z step.by v step.place step.act (found step.word page) K17) }
 {
     known.moves_set(set_in(step.place), step.act, step.word);
 }
@@ -175,7 +235,7 @@ pub fn reads_root(sizes: &Sizes, layouts: &[Layout], known: &mut Known, step: St
     requires good { IsGoodGround (ground_of sizes.now layouts.now) }
     requires asks { IsRootRead sizes.now known.old.work.doing step.word }
     ensures { let z = ground_of sizes.now layouts.now in (page : FrameView) →
-        Makes z known.old known.new None (λ v. outcome z step.by v step.place step.act (found step.word page) K18) }
+        Makes z known.old known.new (λ v. outcome z step.by v step.place step.act (found step.word page) K18) }
 {
     known.reads_root(sizes, layouts, step.word);
 }
@@ -184,7 +244,7 @@ pub fn reads_root(sizes: &Sizes, layouts: &[Layout], known: &mut Known, step: St
 #[inline(always)]
 pub fn reserves(sizes: &Sizes, layouts: &[Layout], known: &mut Known, step: StepFound)
     ensures { let z = ground_of sizes.now layouts.now in (page : FrameView) →
-        Makes z known.old known.new None (λ v. outcome z step.by v step.place step.act (found step.word page) K19) }
+        Makes z known.old known.new (λ v. outcome z step.by v step.place step.act (found step.word page) K19) }
 {
     known.reserves();
 }
@@ -194,7 +254,7 @@ pub fn reserves(sizes: &Sizes, layouts: &[Layout], known: &mut Known, step: Step
 pub fn moves_mark(sizes: &Sizes, layouts: &[Layout], known: &mut Known, step: StepFound)
     requires { AsksMark (ground_of sizes.now layouts.now) step.by known.old step.place step.act step.word }
     ensures { let z = ground_of sizes.now layouts.now in (page : FrameView) →
-        Makes z known.old known.new None (λ v. outcome z step.by v step.place step.act (found step.word page) K20) }
+        Makes z known.old known.new (λ v. outcome z step.by v step.place step.act (found step.word page) K20) }
 {
     known.moves_mark(layouts, address_in(step.place), step.act, step.word);
 }
@@ -203,7 +263,7 @@ pub fn moves_mark(sizes: &Sizes, layouts: &[Layout], known: &mut Known, step: St
 #[inline(always)]
 pub fn gives_unit(sizes: &Sizes, layouts: &[Layout], known: &mut Known, step: StepFound)
     ensures { let z = ground_of sizes.now layouts.now in (page : FrameView) →
-        Makes z known.old known.new None (λ v. outcome z step.by v step.place step.act (found step.word page) K21) }
+        Makes z known.old known.new (λ v. outcome z step.by v step.place step.act (found step.word page) K21) }
 {
     known.gives_unit();
 }
@@ -213,7 +273,7 @@ pub fn gives_unit(sizes: &Sizes, layouts: &[Layout], known: &mut Known, step: St
 pub fn takes_gray(sizes: &Sizes, layouts: &[Layout], known: &mut Known, step: StepFound)
     requires { AsksGray (ground_of sizes.now layouts.now) step.by known.old step.place step.act step.word }
     ensures { let z = ground_of sizes.now layouts.now in (page : FrameView) →
-        Makes z known.old known.new None (λ v. outcome z step.by v step.place step.act (found step.word page) K22) }
+        Makes z known.old known.new (λ v. outcome z step.by v step.place step.act (found step.word page) K22) }
 {
     known.takes_gray(address_in(step.place), step.word);
 }
@@ -223,7 +283,7 @@ pub fn takes_gray(sizes: &Sizes, layouts: &[Layout], known: &mut Known, step: St
 pub fn reads_cell(sizes: &Sizes, layouts: &[Layout], known: &mut Known, step: StepFound)
     requires { IsCellRead known.old.work.doing step.word }
     ensures { let z = ground_of sizes.now layouts.now in (page : FrameView) →
-        Makes z known.old known.new None (λ v. outcome z step.by v step.place step.act (found step.word page) K23) }
+        Makes z known.old known.new (λ v. outcome z step.by v step.place step.act (found step.word page) K23) }
 {
     known.reads_cell(layouts, step.word);
 }
@@ -233,7 +293,7 @@ pub fn reads_cell(sizes: &Sizes, layouts: &[Layout], known: &mut Known, step: St
 pub fn blackens(sizes: &Sizes, layouts: &[Layout], known: &mut Known, step: StepFound)
     requires { MayOwe known.old.work }
     ensures { let z = ground_of sizes.now layouts.now in (page : FrameView) →
-        Makes z known.old known.new None (λ v. outcome z step.by v step.place step.act (found step.word page) K24) }
+        Makes z known.old known.new (λ v. outcome z step.by v step.place step.act (found step.word page) K24) }
 {
     known.blackens();
 }

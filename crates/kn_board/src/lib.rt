@@ -15,6 +15,7 @@ mod notes;
 mod opening;
 mod plain;
 mod spans;
+mod starts;
 mod step;
 
 pub use board::{Board, BoardSeat};

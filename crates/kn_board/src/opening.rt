@@ -10,11 +10,12 @@ ghost use Rattle.kn_board.specs.Stored.{AreUnowned};
 
 use crate::plain::Plain;
 use crate::spans::span_of;
-use kn_base::{FramePage, MOST_CALLS, Sizes};
+use crate::starts::Starts;
+use kn_base::{FramePage, Sizes};
 use kn_holds::FrameHold;
 use kn_layout::{Layout, copy_layouts};
 use kn_rule::table_length;
-use kn_view::Known;
+use kn_view::{History, Known};
 use std::alloc::{AllocError, Global};
 
 fn zeros(alloc: Global, count: usize) -> Result<Vec<u64>, AllocError>
@@ -74,9 +75,10 @@ impl<P: FramePage> Plain<P> {
         let slots = in_slots(alloc, pages)?;
         let known = newcomers(alloc, sizes)?;
         let holds = free_frames(alloc, sizes)?;
-        let history = Vec::with_capacity(alloc, 2 * MOST_CALLS as usize)?;
+        let history = History::open(alloc)?;
         Ok(Plain {
             sizes: *sizes,
+            starts: Starts::of(sizes),
             layouts: copies,
             words,
             slots,

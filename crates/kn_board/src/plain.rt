@@ -1,65 +1,55 @@
 //! The plain memory of a board, and one step of it.
-ghost use Rattle.std.specs.Prelude.{◌≡◌, ◌≢◌, ◌<◌, ◌≤◌, length, map, option_map, vec_capacity, vec_len, Some, None};
+ghost use Rattle.std.specs.Prelude.{◌≡◌, ◌<◌, option_map};
 ghost use Rattle.kn_base.specs.Pages.{FrameView};
 ghost use Rattle.kn_rule.specs.Allowed.{MayMake};
 ghost use Rattle.kn_rule.specs.Places.{Within};
-ghost use Rattle.kn_rule.specs.Steps.{callers, does, found, more};
+ghost use Rattle.kn_rule.specs.Steps.{callers, does, found};
 ghost use Rattle.kn_steps.specs.Made.{Made, MayMove, Moved};
-ghost use Rattle.kn_view.specs.Parts.{said_list};
 ghost use Rattle.kn_board.specs.World.{MovesTo, Sound, StepsTo, lies_at, slot_at, stand_at, view_at, word_at};
 
 use crate::notes::notes;
+use crate::starts::Starts;
 use crate::step::StepFound;
 use kn_base::{FramePage, Place, Sizes};
 use kn_graph::Entry;
 use kn_holds::FrameHold;
 use kn_layout::Layout;
-use kn_rule::{Action, Kind, place_index};
-use kn_view::{Known, left_by};
+use kn_rule::{Action, Kind};
+use kn_view::{History, Known, left_by};
 use std::marker::Model;
 use std::mem::replace;
 
-/// The words, the pages in their slots, what is stored of the views, and the history.
+/// The words, the pages in their slots, what is stored of the views, and the history; and where the words
+/// of each sort of place begin.
 #[derive(Drop)]
 pub struct Plain<P: FramePage> {
     pub sizes: Sizes,
+    pub starts: Starts,
     pub layouts: Vec<Layout>,
     pub words: Vec<u64>,
     pub slots: Vec<Option<P>>,
     pub known: Vec<Known>,
     pub holds: Vec<FrameHold>,
-    pub history: Vec<Entry>,
+    pub history: History,
 }
 
 impl<P: FramePage> Model for Plain<P> {
-    ghost use Rattle.std.specs.Prelude.{map, option_map, vec_capacity};
+    ghost use Rattle.std.specs.Prelude.{◌≡◌, map, option_map};
     ghost use Rattle.kn_view.specs.Parts.{ground_of};
     ghost use Rattle.kn_board.specs.World.{World, Sound};
     ghost use Rattle.kn_board.specs.Parts.{world_of};
+    ghost use Rattle.kn_board.specs.Starts.{starts_of};
     ghost use Rattle.kn_board.specs.Stored.{Kept};
 
     ghost Value = { World };
 
     ghost view = { λ b. world_of (ground_of b.sizes b.layouts.items) b.words.items (map (option_map P.page) b.slots.items)
-        b.known.items b.holds.items b.history.items };
+        b.known.items b.holds.items b.history };
 
     ghost invariant = { λ b. Sound (world_of (ground_of b.sizes b.layouts.items) b.words.items (map (option_map P.page) b.slots.items)
-        b.known.items b.holds.items b.history.items)
-        × Kept (ground_of b.sizes b.layouts.items) (map (option_map P.page) b.slots.items) b.known.items b.holds.items b.history.items
-        (vec_capacity b.history) };
-}
-
-// Puts what was said last.
-fn note(history: &mut Vec<Entry>, said: Option<Entry>)
-    requires { said ≢ None → vec_len history.old < vec_capacity history.old }
-    ensures items { history.new.items ≡ more history.old.items (said_list said) }
-    ensures room { vec_capacity history.old ≤ vec_capacity history.new }
-{
-    if let Some(entry) = said {
-        if history.push(entry).is_err() {
-            unreachable!();
-        }
-    }
+        b.known.items b.holds.items b.history)
+        × Kept (ground_of b.sizes b.layouts.items) (map (option_map P.page) b.slots.items) b.known.items b.holds.items b.history
+        × (b.starts ≡ starts_of b.sizes) };
 }
 
 impl<P: FramePage> Plain<P> {
@@ -71,7 +61,7 @@ impl<P: FramePage> Plain<P> {
         ensures { (page : FrameView) × StepsTo self.old by (does kind place act) (found result page) self.new
             × Made (stand_at by self.old) (lies_at self.old) (does kind place act) (found result page) (stand_at by self.new) (lies_at self.new) }
     {
-        let i = place_index(&self.sizes, place);
+        let i = self.starts.index(place);
         let word = self.words[i];
         self.words[i] = left_by(act, word);
         let step = StepFound {
@@ -81,16 +71,16 @@ impl<P: FramePage> Plain<P> {
             word,
         };
         let known = &mut self.known[by as usize];
-        let said = notes(
+        notes(
             &self.sizes,
             self.layouts.as_slice(),
             known,
             &mut self.holds,
+            &mut self.history,
             self.slots.as_slice(),
             kind,
             step,
         );
-        note(&mut self.history, said);
         word
     }
 
@@ -98,7 +88,7 @@ impl<P: FramePage> Plain<P> {
         requires { Within self.now.heap.sizes place }
         ensures { result ≡ word_at self.now place }
     {
-        self.words[place_index(&self.sizes, place)]
+        self.words[self.starts.index(place)]
     }
 
     pub fn page(&self, frame: u16) -> Option<&P>
@@ -110,7 +100,7 @@ impl<P: FramePage> Plain<P> {
     pub fn history(&self) -> &[Entry]
         ensures { result.now ≡ self.now.history }
     {
-        self.history.as_slice()
+        self.history.entries()
     }
 
     /// Between any two steps the rule holds.

@@ -1,13 +1,12 @@
 -- A step of one of two callers, made on its seat: what it leaves of the other one.
-use Rattle.std.proofs.Common.{◌≡◌, ◌≢◌, ℕ, ◌<◌, inl, sym, ap, ◌∙◌, subst, arith}
+use Rattle.std.proofs.Common.{◌≡◌, ◌≢◌, ℕ, ◌<◌, inl, inr, sym, ap, ◌∙◌, subst, arith}
 use Rattle.kn_rule.specs.Moves.{view_after}
 use Rattle.kn_rule.specs.Steps.{Found, Step, callers}
 use Rattle.kn_steps.specs.Made.{Allowed, Made, Stand}
-use Rattle.kn_board.specs.World.{Seat, SeatDid, Sound, World, lies_at, seat, seat_here, seat_stand, stand_at, view_at}
-use Rattle.kn_steps.specs.declared.turns.Turn.{Turn as Reply}
+use Rattle.kn_steps.specs.Turns.{OneTurn}
+use Rattle.kn_board.specs.World.{Seat, SeatDid, SeatMoved, Sound, World, lies_at, seat, seat_here, seat_stand, stand_at, view_at}
 use Rattle.kn_collector.specs.Kept.{Kept}
 use Rattle.kn_collector.specs.Agree.{Agrees}
-use Rattle.kn_collector.specs.Turns.{Turned}
 use Rattle.kn_others.specs.Laws.{HeapStays, OthersStay, Turn}
 
 module _ (w : World) (c : ℕ) (s : Seat) (by : s.by ≡ c) (board : s.board ≡ w) where
@@ -60,15 +59,24 @@ mutator_steps others heaps w sound one s by board d f s' w' into made did =
       λ k g. subst (Agrees k) (sym same) g,
     )
 
--- the collector of one thread made a step: it agrees with its view on the board, the heap stays, and so does the mutator's view
-pub collector_steps : OthersStay → HeapStays → (w : World) → Sound w → w.heap.sizes.threads ≡ 1 → (s : Seat) → s.by ≡ 1 → s.board ≡ w →
-    (s' : Seat) (w' : World) → w' ≡ s'.board → (k k' : Kept) (reply : Reply) → Turned seat_stand seat_here SeatDid k s s' k' reply →
+-- the collector of one thread made a turn: it agrees with its view on the board, the heap stays, and so does the mutator's view
+pub collector_turns : OthersStay → HeapStays → (w : World) → Sound w → w.heap.sizes.threads ≡ 1 → (s : Seat) → s.by ≡ 1 → s.board ≡ w →
+    (s' : Seat) (w' : World) → w' ≡ s'.board → OneTurn seat_stand seat_here SeatDid SeatMoved s s' → (k' : Kept) →
     Agrees k' (seat_stand s') → Agrees k' (stand_at 1 w') × (w'.heap ≡ w.heap) × (view_at w' 0 ≡ view_at w 0)
-collector_steps others heaps w sound one s by board s' w' into k k' reply t g = (
-  subst (λ (b : Seat). Agrees k' (seat_stand b)) (then_is w 1 s by board t.step t.found s' w' into t.made t.kept) g,
-  heap_then w 1 s by board t.step t.found s' w' into t.made t.kept others heaps sound,
-  other_then w 1 s by board t.step t.found s' w' into t.made t.kept others heaps sound 0 (omega (arith, one)) (omega (arith, one)) (λ e. cc),
-)
+collector_turns others heaps w sound one s by board s' w' into t k' g =
+    let before : s ≡ seat 1 w = seat_is w 1 s by board in
+    let behind : s' ≡ seat 1 w' = λ i. record { by = (by_stays t ∙ by) i; board = sym into i } in
+    let turn : Turn 1 w w' =
+    subst (λ (a : Seat). OneTurn seat_stand seat_here SeatDid SeatMoved a (seat 1 w')) before
+    (subst (λ (b : Seat). OneTurn seat_stand seat_here SeatDid SeatMoved s b) behind t) in (
+      subst (λ (b : Seat). Agrees k' (seat_stand b)) behind g,
+      heaps w w' 1 turn,
+      (others w w' 1 0 sound (omega (arith, one)) (omega (arith, one)) (λ e. cc) turn).0,
+    )
+  where
+    by_stays : OneTurn seat_stand seat_here SeatDid SeatMoved s s' → s'.by ≡ s.by
+    by_stays (inl made) = made.kept.0
+    by_stays (inr moved) = moved.kept.0
 
 -- a collector that agrees with its view on the board agrees with its seat
 pub seat_agrees : (w : World) (s : Seat) → s.by ≡ 1 → s.board ≡ w → (k : Kept) → Agrees k (stand_at 1 w) → Agrees k (seat_stand s)

@@ -1,3 +1,7 @@
+mod collecting;
+mod draws;
+mod markings;
+mod marks;
 mod pairs;
 mod stops;
 

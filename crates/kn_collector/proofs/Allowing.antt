@@ -10,7 +10,7 @@ use Rattle.kn_rule.specs.Decoding.{phase_of}
 use Rattle.kn_rule.proofs.Decodings.{phase_packed}
 use Rattle.kn_steps.specs.Made.{Stand}
 use Rattle.kn_collector.specs.declared.stage.Stage.{Stage}
-use Rattle.kn_collector.specs.declared.stage.Stage.TheVariants.{Looks, Wants, Ends, Stops, Counts, Begins, Marks, Marking}
+use Rattle.kn_collector.specs.declared.stage.Stage.TheVariants.{Looks, Wants, Ends, Stops, Counts, Begins, Marks, Pauses, Paused}
 use Rattle.kn_collector.specs.Kept.{Kept}
 use Rattle.kn_collector.specs.Stages.{code_at, phase_word}
 use Rattle.kn_collector.specs.Agree.{Agrees, AtStage, EachBelow, position_at}
@@ -31,6 +31,10 @@ module _ {k : Kept} {a : Stand} (g : Agrees k a) where
 
   epoch_is : (t : Stage) → k.stage ≡ t → (phase_of a.view.collecting.stored).epoch ≡ k.epoch
   epoch_is t e = ap (λ (x : PhaseWord). x.epoch) (now_at t e)
+
+  -- there is a mutator
+  pub some : 0 < k.by
+  some = let l = g.good.sizes.of_threads.threads.0 in let n = g.collector in omega (arith, l, n)
 
   module _ (here : ℕ → Bool) where
     collects : (t : Stage) → k.stage ≡ t → position_at t ≡ positions.Out → Collects a.heap a.by a.view here
@@ -117,11 +121,19 @@ module _ {k : Kept} {a : Stand} (g : Agrees k a) where
           once = h.1;
         })
 
-    pub may_wait : k.stage ≡ Marking → MayCount a.heap a.by a.view here Pending Loads
-    may_wait e =
-        let c = collects Marking e refl in
-        inr (record {
+    pub may_pause : k.stage ≡ Pauses → MayStorePhase a.heap a.by a.view here Phase (Stores (phase_word k.epoch codes.Weak))
+    may_pause e =
+        record {
+          value = phase_word k.epoch codes.Weak;
           place = refl;
           act = refl;
-          marker = inr (record { collector = c.collector; going = c.going; in_mark = code_is Marking e });
-        })
+          collects = collects Pauses e refl;
+          may = inr (inr (record {
+            in_mark = code_is Pauses e;
+            over = (at_stage Pauses e).0;
+            value = ap (λ n. phase_word n codes.Weak) (sym (epoch_is Pauses e));
+          }));
+        }
+
+    pub may_rest : k.stage ≡ Paused → MayLoadState a.heap a.by a.view here (StateOf 0) Loads
+    may_rest e = may_load 0 Paused e refl some

@@ -1,3 +1,4 @@
 mod Allowing
 mod Agreeing
+mod Marked
 mod Turning

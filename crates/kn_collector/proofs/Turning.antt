@@ -1,28 +1,21 @@
 -- The turn that the step of a stage makes.
-use Rattle.std.proofs.Common.{◌≡◌, ℕ, ◌+◌, ◌≤◌, ◌↔◌, Bool, true, false, cond, eqb, [], Some, nat_lt, refl, sym, ap, ◌∙◌, subst}
+use Rattle.std.proofs.Common.{◌≡◌, ℕ, ◌+◌, ◌≤◌, ◌↔◌, inl, Bool, true, false, cond, eqb, List, Option, Some, nat_lt, refl, sym}
+use Rattle.std.proofs.Common.{ap, ◌∙◌, subst}
 use Rattle.std.proofs.lemmas.Bool.{eqb-true, ltb-false}
-use Rattle.std.proofs.lemmas.Option.{same_Some}
+use Rattle.kn_base.specs.Pages.{FrameView}
 use Rattle.kn_base.specs.declared.places.Place.{Place}
-use Rattle.kn_base.specs.declared.phase_word.PhaseWord.{PhaseWord}
-use Rattle.kn_base.specs.Words.{packed_phase}
-use Rattle.kn_base.specs.declared.kinds.Code.TheVariants as codes
-use Rattle.kn_base.specs.declared.places.Place.TheVariants.{Phase, Want, Pending, State as StateOf}
-use Rattle.kn_rule.specs.declared.positions.Position.{Position}
-use Rattle.kn_rule.specs.declared.positions.Position.TheVariants.{Calling, Out}
-use Rattle.kn_rule.specs.declared.steps.Action.TheVariants.{Loads, Stores}
-use Rattle.kn_rule.specs.declared.steps.Kind.TheVariants.{K2, K13, K14, K15, K16}
-use Rattle.kn_rule.specs.Outcomes.{paused_at, wanted_at}
-use Rattle.kn_rule.specs.Steps.{Found, Step, does, logged, more}
-use Rattle.kn_rule.proofs.Decodings.{phase_packed}
-use Rattle.kn_steps.specs.Made.{Made, Stand, stand_after}
+use Rattle.kn_base.specs.declared.places.Place.TheVariants.{Want, State as StateOf}
+use Rattle.kn_graph.specs.declared.entries.Entry.{Entry}
+use Rattle.kn_rule.specs.Steps.{Found, Step, more}
+use Rattle.kn_steps.specs.Made.{Made, Stand}
 use Rattle.kn_steps.specs.declared.turns.Turn.{Turn}
 use Rattle.kn_steps.specs.declared.turns.Turn.TheVariants.{Done, Idle, Moved}
 use Rattle.kn_collector.specs.declared.stage.Stage.{Stage}
-use Rattle.kn_collector.specs.declared.stage.Stage.TheVariants.{Looks, Wants, Ends, Ended, Stops, Counts, Begins, Marks, Marking}
+use Rattle.kn_collector.specs.declared.stage.Stage.TheVariants.{Looks, Wants, Ends, Ended, Stops, Counts, Begins, Marks, Marking, Pauses, Paused}
 use Rattle.kn_collector.specs.Kept.{Kept}
-use Rattle.kn_collector.specs.Stages.{IsIdleFor, answer_behind, behind, phase_word, stage_behind, stage_step}
+use Rattle.kn_collector.specs.Stages.{IsIdleFor, answer_behind, behind, said_at, stage_behind, stage_step}
 use Rattle.kn_collector.specs.Agree.{Agrees, HasEnded}
-use Rattle.kn_collector.specs.Turns.{Goes}
+use Rattle.kn_collector.specs.Turns.{Goes, IdleAt, MakesStep, TurnedAt}
 
 -- where it has not ended, a turn that is not done says so
 not_done : (reply : Turn) (t : Stage) → (reply ≡ Done → ⊥) → (HasEnded t → ⊥) → (reply ≡ Done) ↔ HasEnded t
@@ -55,7 +48,9 @@ module _ (k : Kept) (w : ℕ) where
   done_told (Counts i) d e = counted_goes_on i (eqb w 1) (nat_lt (i + 1) k.by)
   done_told Begins d e = not_done Moved Marks (λ e. cc) (λ h. h)
   done_told Marks d e = not_done Moved Marking (λ e. cc) (λ h. h)
-  done_told Marking d e = not_done (answer_behind k Marking w) Marking (λ e. cc) (λ h. h)
+  done_told Marking d e = absurd (cc)
+  done_told Pauses d e = not_done Moved Paused (λ e. cc) (λ h. h)
+  done_told Paused d e = not_done (Idle (StateOf 0) w) Paused (λ e. cc) (λ h. h)
 
   wanted_idle : (all q r : Bool) → nat_lt k.epoch w ≡ q → all ≡ r → (p : Place) (u : ℕ) →
       cond q Moved (cond r Moved (Idle Want w)) ≡ Idle p u → IsIdleFor k (Wants all) p u
@@ -74,73 +69,61 @@ module _ (k : Kept) (w : ℕ) where
       (sym place, sym word ∙ eqb-true w 1 e)
   counted_idle i false e p u h = absurd (cc)
 
-  idle_told : (t : Stage) (p : Place) (u : ℕ) → answer_behind k t w ≡ Idle p u → IsIdleFor k t p u
-  idle_told (Looks i) p u e = absurd (cc)
-  idle_told (Wants all) p u e = wanted_idle all (nat_lt k.epoch w) all refl refl p u e
-  idle_told Ends p u e = absurd (cc)
-  idle_told Ended p u e = absurd (cc)
-  idle_told Stops p u e = absurd (cc)
-  idle_told (Counts i) p u e = counted_idle i (eqb w 1) refl p u e
-  idle_told Begins p u e = absurd (cc)
-  idle_told Marks p u e = absurd (cc)
-  idle_told Marking p u e = cc
+-- a step that was made is the turn of its stage, and why that is idle is told
+module _ {T : Type 0} (stand : T → Stand) (here : T → ℕ → Bool) (did : T → Step → Found → T → Type 0)
+    (moved : T → ℕ → Option FrameView → Option FrameView → T → Type 0) (k : Kept) (s s' : T) where
+  turned_at : (t : Stage) (d : Step) → stage_step k t ≡ Some d → (k' : Kept) (reply : Turn) →
+      MakesStep stand here did t k s s' k' reply → TurnedAt stand here did t k s s' k' reply
+  turned_at (Looks i) d e k' reply made = made
+  turned_at (Wants all) d e k' reply made = made
+  turned_at Ends d e k' reply made = made
+  turned_at Ended d e k' reply made = made
+  turned_at Stops d e k' reply made = made
+  turned_at (Counts i) d e k' reply made = made
+  turned_at Begins d e k' reply made = made
+  turned_at Marks d e k' reply made = made
+  turned_at Marking d e k' reply made = absurd (cc)
+  turned_at Pauses d e k' reply made = made
+  turned_at Paused d e k' reply made = made
 
--- the step of a stage makes no entry
-wanted_quiet : (a : Stand) (f : Found) (at : Position) → (logged (wanted_at a.heap a.by a.view Want Loads f at)).log ≡ a.view.log
-wanted_quiet a f (Calling call) = refl
-wanted_quiet a f Out = refl
-wanted_quiet a f _ = refl
+  idle_at : (w : ℕ) (t : Stage) (d : Step) → stage_step k t ≡ Some d → IdleAt stand here did moved t k s s' (answer_behind k t w)
+  idle_at w (Looks i) d e = λ p u h. absurd (cc)
+  idle_at w (Wants all) d e = λ p u h. wanted_idle k w all (nat_lt k.epoch w) all refl refl p u h
+  idle_at w Ends d e = λ p u h. absurd (cc)
+  idle_at w Ended d e = λ p u h. absurd (cc)
+  idle_at w Stops d e = λ p u h. absurd (cc)
+  idle_at w (Counts i) d e = λ p u h. counted_idle k w i (eqb w 1) refl p u h
+  idle_at w Begins d e = λ p u h. absurd (cc)
+  idle_at w Marks d e = λ p u h. absurd (cc)
+  idle_at w Marking d e = absurd (cc)
+  idle_at w Pauses d e = λ p u h. absurd (cc)
+  idle_at w Paused d e = λ p u h. cc
 
--- a store of a phase that is no pause makes none
-phase_quiet : (a : Stand) (f : Found) (v : PhaseWord) → paused_at a.heap a.by a.view Phase (Stores (packed_phase v)) f v.code v.epoch ≡ [] →
-    (stand_after a (does K14 Phase (Stores (packed_phase v))) f).view.log ≡ a.view.log
-phase_quiet a f v none =
-    (λ t. more a.view.log (paused_at a.heap a.by a.view Phase (Stores (packed_phase v)) f (phase_packed v t).code (phase_packed v t).epoch))
-    ∙ ap (more a.view.log) none
-
-module _ (k : Kept) (a b : Stand) (f : Found) where
-  quiet_by : (x d : Step) → Some x ≡ Some d → (stand_after a x f).view.log ≡ a.view.log → b ≡ stand_after a d f → b.view.log ≡ a.view.log
-  quiet_by x d e stays view =
-      ap (λ (c : Stand). c.view.log) view ∙ subst (λ (y : Step). (stand_after a y f).view.log ≡ a.view.log) (same_Some x d e) stays
-
-  quiet_told : (t : Stage) (d : Step) → stage_step k t ≡ Some d → b ≡ stand_after a d f → b.view.log ≡ a.view.log
-  quiet_told (Looks i) d e view = quiet_by (does K15 (StateOf i) Loads) d e refl view
-  quiet_told (Wants all) d e view = quiet_by (does K13 Want Loads) d e (wanted_quiet a f a.view.position) view
-  quiet_told Ends d e view = quiet_by (does K2 (StateOf k.by) (Stores 2)) d e refl view
-  quiet_told Ended d e view = absurd (cc)
-  quiet_told Stops d e view =
-      quiet_by (does K14 Phase (Stores (phase_word (k.epoch + 1) codes.StopA))) d e
-      (phase_quiet a f (record { epoch = k.epoch + 1; code = codes.StopA }) refl) view
-  quiet_told (Counts i) d e view = quiet_by (does K15 (StateOf i) Loads) d e refl view
-  quiet_told Begins d e view = quiet_by (does K16 Pending (Stores (k.by + 2))) d e refl view
-  quiet_told Marks d e view =
-      quiet_by (does K14 Phase (Stores (phase_word k.epoch codes.Mark))) d e
-      (phase_quiet a f (record { epoch = k.epoch; code = codes.Mark }) refl) view
-  quiet_told Marking d e view = quiet_by (does K16 Pending Loads) d e refl view
-
-module _ {T : Type 0} (stand : T → Stand) (here : T → ℕ → Bool) (did : T → Step → Found → T → Type 0) (k : Kept) (s s' : T) where
-  pub goes : (t : Stage) → k.stage ≡ t → (d : Step) (f : Found) → stage_step k t ≡ Some d → (d' : Step) → d' ≡ d →
+  pub goes : Agrees k (stand s) → (t : Stage) → k.stage ≡ t → (d : Step) (f : Found) → stage_step k t ≡ Some d → (d' : Step) → d' ≡ d →
       Made (stand s) (here s) d' f (stand s') (here s') → did s d' f s' →
       (Made (stand s) (here s) d f (stand s') (here s') → Agrees (behind k t f.word) (stand s')) → (k' : Kept) → k' ≡ behind k t f.word →
-      (reply : Turn) → reply ≡ answer_behind k t f.word → Goes stand here did k s s' k' reply
-  goes t e d f named d' same_step made' kept agrees k' after reply answer = record {
-    turned = record {
-      step = d;
-      found = f;
-      named = ap (stage_step k) e ∙ named;
-      made = made;
-      kept = subst (λ d. did s d f s') same_step kept;
-      after = after ∙ sym (ap (λ t. behind k t f.word) e);
-      answer = answer ∙ sym (ap (λ t. answer_behind k t f.word) e);
-    };
-    agrees = subst (λ k. Agrees k (stand s')) (sym after) (agrees made);
+      (reply : Turn) → reply ≡ answer_behind k t f.word → Goes stand here did moved k s s' k' reply
+  goes g t e d f named d' same_step made' kept' agrees_behind k' after reply answer = record {
+    turned = subst (λ t. TurnedAt stand here did t k s s' k' reply) (sym e)
+        (turned_at t d named k' reply
+        (record { step = d; found = f; named = named; made = made; kept = kept; after = after; answer = answer }));
+    agrees = subst (λ k. Agrees k (stand s')) (sym after) agrees;
+    one = inl (record { step = d; found = f; made = made; kept = kept });
     done = done;
-    idle = λ p w i. subst (λ t. IsIdleFor k t p w) (sym e) (idle_told k f.word t p w (sym answer ∙ i));
-    quiet = quiet_told k (stand s) (stand s') f t d named made.view;
+    idle = subst (λ t. IdleAt stand here did moved t k s s' reply) (sym e)
+        (subst (λ r. IdleAt stand here did moved t k s s' r) (sym answer) (idle_at f.word t d named));
+    log = agrees.log
+        ∙ (ap (λ (l : List Entry). more l (said_at k t)) (sym g.log) ∙ ap (λ t. more (stand s).view.log (said_at k t)) (sym e));
   }
     where
       made : Made (stand s) (here s) d f (stand s') (here s')
       made = subst (λ d. Made (stand s) (here s) d f (stand s') (here s')) same_step made'
+
+      kept : did s d f s'
+      kept = subst (λ d. did s d f s') same_step kept'
+
+      agrees : Agrees (behind k t f.word) (stand s')
+      agrees = agrees_behind made
 
       told : (answer_behind k t f.word ≡ Done) ↔ HasEnded (stage_behind k t f.word)
       told = done_told k f.word t d named

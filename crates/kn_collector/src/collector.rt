@@ -1,63 +1,88 @@
-//! The collector, and the turn of each stage.
-ghost use Rattle.std.specs.Prelude.{◌≡◌, ℕ, ◌<◌, ◌↔◌, Bool, IsTrue};
-ghost use Rattle.kn_base.specs.declared.places.Place.{Place};
-ghost use Rattle.kn_base.specs.Sizes.{IsGood};
-ghost use Rattle.kn_graph.specs.Ground.{Ground, IsGoodGround};
+//! The collector, and the turns of its stages where no epoch is under way.
+ghost use Rattle.std.specs.Prelude.{◌≡◌, ℕ, ◌<◌, ◌↔◌, Bool, IfOk, IsTrue};
 ghost use Rattle.kn_rule.specs.Decoding.{phase_of};
 ghost use Rattle.kn_rule.specs.Rule.{fresh};
+ghost use Rattle.kn_rule.specs.Steps.{more};
+ghost use Rattle.kn_script.specs.Good.{IsGoodScript};
+ghost use Rattle.kn_script.specs.Scripts.{ground_of};
 ghost use Rattle.kn_steps.specs.Made.{Stand};
 ghost use Rattle.kn_steps.specs.Turns.{OneTurn};
-ghost use Rattle.kn_steps.specs.declared.turns.Turn.TheVariants.{Done, Idle};
-ghost use Rattle.kn_collector.specs.declared.stage.Stage.TheVariants.{Looks, Wants, Ends, Stops, Counts, Begins, Marks, Marking};
+ghost use Rattle.kn_steps.specs.declared.turns.Turn.TheVariants.{Done};
+ghost use Rattle.kn_collector.specs.declared.stage.Stage.TheVariants.{Looks, Wants, Ends};
 ghost use Rattle.kn_collector.specs.Kept.{new_kept};
 ghost use Rattle.kn_collector.specs.Stages;
-ghost use Rattle.kn_collector.specs.Stages.{IsIdleFor};
+ghost use Rattle.kn_collector.specs.Stages.{said_at};
 ghost use Rattle.kn_collector.specs.Agree.{Agrees, HasEnded};
-ghost use Rattle.kn_collector.specs.Turns.{Goes, Turned};
+ghost use Rattle.kn_collector.specs.Turns.{Goes, IdleAt, Turned};
 
 use crate::stage::Stage;
-use kn_base::{Code, Home, PhaseWord, Place, Sizes};
+use kn_base::{Code, Home, MOST_CALLS, Place};
+use kn_graph::Entry;
 use kn_keep_mark::laws::epochs_are_few;
+use kn_layout::{Layout, copy_layouts};
+use kn_mark::Marker;
 use kn_rule::Kind;
+use kn_script::Script;
 use kn_steps::{Steps, Turn};
+use std::alloc::{AllocError, Global};
 use std::marker::Model;
 
 /// The collector of a heap. Contracts see a `Kept` of `specs/Kept.antt`.
 #[derive(Drop)]
 pub struct Collector {
     /// Its number, which is how many mutators there are.
-    by: u8,
-    epoch: u32,
-    stage: Stage,
+    pub(crate) by: u8,
+    pub(crate) epoch: u32,
+    pub(crate) stage: Stage,
+    pub(crate) layouts: Vec<Layout>,
+    pub(crate) marker: Marker,
+    pub(crate) log: Vec<Entry>,
 }
 
 impl Model for Collector {
+    ghost use Rattle.std.specs.Prelude.{◌≤◌, vec_capacity};
+    ghost use Rattle.kn_base.specs.declared.limits.TheConstants.{MOST_CALLS};
     ghost use Rattle.kn_collector.specs.Kept.{Kept};
 
     ghost Value = { Kept };
 
-    ghost view = { λ c. record { by = c.by; epoch = c.epoch; stage = c.stage } };
+    ghost view = { λ c. record {
+      by = c.by;
+      epoch = c.epoch;
+      stage = c.stage;
+      layouts = c.layouts.items;
+      marker = c.marker;
+      log = c.log.items;
+    } };
+
+    ghost invariant = { λ c. MOST_CALLS ≤ vec_capacity c.log };
 }
 
 impl Collector {
-    /// The collector of a heap of these sizes, which has made no turn.
-    pub fn open(sizes: &Sizes) -> Collector
-        requires good { IsGood sizes.now }
-        ensures new { result ≡ new_kept sizes.now.threads }
-        ensures agrees { (z : Ground) → IsGoodGround z → z.sizes ≡ sizes.now →
-            Agrees result (record { heap = z; by = z.sizes.threads; view = fresh z }) }
+    /// The collector of a script's heap, which has made no turn. All memory is taken here; an error is want
+    /// of it.
+    pub fn open(alloc: Global, script: &Script) -> Result<Collector, AllocError>
+        requires good { IsGoodScript script.now }
+        ensures new { IfOk result (λ c. c ≡ new_kept (ground_of script.now)) }
+        ensures agrees { IfOk result (λ c. Agrees c
+            (record { heap = ground_of script.now; by = script.now.sizes.threads; view = fresh (ground_of script.now) })) }
     {
-        Collector {
-            by: sizes.threads as u8,
+        Ok(Collector {
+            by: script.sizes.threads as u8,
             epoch: 0,
             stage: Stage::Looks(0),
-        }
+            layouts: copy_layouts(alloc, &script.layouts)?,
+            marker: Marker::open(&script.sizes),
+            log: Vec::with_capacity(alloc, MOST_CALLS as usize)?,
+        })
     }
 
     /// Makes the next step (`Turned` in `specs/Turns.antt`). It must not have ended. `Idle` where the
     /// word that was loaded says that no epoch is wanted, and not all mutators were seen ended, or that
-    /// a mutator is in; and in Mark, with the count of open work. `Done` in the turn that stores that it
-    /// has ended.
+    /// a mutator is in; in Mark where its marker found nothing to mark at a place; and behind the pause, with
+    /// the state of mutator 0. `Done` in the turn that stores that it has ended. The entry of the pause is
+    /// made, and logged, in the turn that stores Weak, and no other entry is.
+    #[inline(always)]
     pub fn turn<P: Home, T: Steps<P>>(&mut self, steps: &mut T) -> Turn
         requires agrees { Agrees self.old (T.stand steps.old) }
         requires going { ¬ HasEnded self.old.stage }
@@ -65,8 +90,8 @@ impl Collector {
         ensures agrees { Agrees self.new (T.stand steps.new) }
         ensures one { OneTurn T.stand T.here T.did T.moved steps.old steps.new }
         ensures done { (result ≡ Done) ↔ HasEnded self.new.stage }
-        ensures idle { (p : Place) (w : ℕ) → result ≡ Idle p w → IsIdleFor self.old self.old.stage p w }
-        ensures quiet { (T.stand steps.new).view.log ≡ (T.stand steps.old).view.log }
+        ensures idle { IdleAt T.stand T.here T.did T.moved self.old.stage self.old steps.old steps.new result }
+        ensures log { (T.stand steps.new).view.log ≡ more (T.stand steps.old).view.log (said_at self.old self.old.stage) }
     {
         self.goes_on(steps)
     }
@@ -74,7 +99,7 @@ impl Collector {
     fn goes_on<P: Home, T: Steps<P>>(&mut self, steps: &mut T) -> Turn
         requires agrees { Agrees self.old (T.stand steps.old) }
         requires going { ¬ HasEnded self.old.stage }
-        ensures { Goes T.stand T.here T.did self.old steps.old steps.new self.new result }
+        ensures { Goes T.stand T.here T.did T.moved self.old steps.old steps.new self.new result }
     {
         match self.stage {
             Stage::Looks(mutator) => self.looks(steps, mutator),
@@ -85,7 +110,9 @@ impl Collector {
             Stage::Counts(mutator) => self.counts(steps, mutator),
             Stage::Begins => self.begins(steps),
             Stage::Marks => self.marks(steps),
-            Stage::Marking => self.waits(steps),
+            Stage::Marking => self.goes_on_marking(steps),
+            Stage::Pauses => self.pauses(steps),
+            Stage::Paused => self.rests(steps),
         }
     }
 
@@ -105,10 +132,24 @@ impl Collector {
         matches!(self.stage, Stage::Ended)
     }
 
+    /// The entries of its pauses, in order.
+    pub fn log(&self) -> &[Entry]
+        ensures { result.now ≡ self.now.log }
+    {
+        self.log.as_slice()
+    }
+
+    /// The entries that `log` gives.
+    pub fn into_log(self) -> Vec<Entry>
+        ensures { result.items ≡ self.log }
+    {
+        self.log
+    }
+
     fn looks<P: Home, T: Steps<P>>(&mut self, steps: &mut T, mutator: u8) -> Turn
         requires agrees { Agrees self.old (T.stand steps.old) }
         requires stage { self.old.stage ≡ Looks mutator }
-        ensures { Goes T.stand T.here T.did self.old steps.old steps.new self.new result }
+        ensures { Goes T.stand T.here T.did T.moved self.old steps.old steps.new self.new result }
     {
         let word = steps.load(Place::State(mutator), Kind::K15);
         self.judges(mutator, word);
@@ -131,7 +172,7 @@ impl Collector {
     fn wants<P: Home, T: Steps<P>>(&mut self, steps: &mut T, all_ended: bool) -> Turn
         requires agrees { Agrees self.old (T.stand steps.old) }
         requires stage { self.old.stage ≡ Wants all_ended }
-        ensures { Goes T.stand T.here T.did self.old steps.old steps.new self.new result }
+        ensures { Goes T.stand T.here T.did T.moved self.old steps.old steps.new self.new result }
     {
         epochs_are_few();
         let word = steps.load(Place::Want, Kind::K13);
@@ -159,79 +200,14 @@ impl Collector {
     fn ends<P: Home, T: Steps<P>>(&mut self, steps: &mut T) -> Turn
         requires agrees { Agrees self.old (T.stand steps.old) }
         requires stage { self.old.stage ≡ Ends }
-        ensures { Goes T.stand T.here T.did self.old steps.old steps.new self.new result }
+        ensures { Goes T.stand T.here T.did T.moved self.old steps.old steps.new self.new result }
     {
         steps.store(Place::State(self.by), 2, Kind::K2);
         self.goes_to(Stage::Ended);
         Turn::Done
     }
 
-    fn stops<P: Home, T: Steps<P>>(&mut self, steps: &mut T) -> Turn
-        requires agrees { Agrees self.old (T.stand steps.old) }
-        requires stage { self.old.stage ≡ Stops }
-        ensures { Goes T.stand T.here T.did self.old steps.old steps.new self.new result }
-    {
-        let epoch = self.epoch + 1;
-        steps.store(Place::Phase, phase_word(epoch, Code::StopA), Kind::K14);
-        self.epoch = epoch;
-        self.goes_to(Stage::Counts(0));
-        Turn::Moved
-    }
-
-    fn counts<P: Home, T: Steps<P>>(&mut self, steps: &mut T, mutator: u8) -> Turn
-        requires agrees { Agrees self.old (T.stand steps.old) }
-        requires stage { self.old.stage ≡ Counts mutator }
-        ensures { Goes T.stand T.here T.did self.old steps.old steps.new self.new result }
-    {
-        let word = steps.load(Place::State(mutator), Kind::K15);
-        self.hears(mutator, word)
-    }
-
-    // Behind the state of a mutator in the stop.
-    fn hears(&mut self, mutator: u8, word: u64) -> Turn
-        requires stage { self.old.stage ≡ Counts mutator }
-        requires mutator { mutator < self.old.by }
-        ensures behind { self.new ≡ Stages.behind self.old (Counts mutator) word }
-        ensures answer { result ≡ Stages.answer_behind self.old (Counts mutator) word }
-    {
-        if word == 1 {
-            Turn::Idle(Place::State(mutator), word)
-        } else {
-            self.stage = counted(self.by, mutator);
-            Turn::Moved
-        }
-    }
-
-    fn begins<P: Home, T: Steps<P>>(&mut self, steps: &mut T) -> Turn
-        requires agrees { Agrees self.old (T.stand steps.old) }
-        requires stage { self.old.stage ≡ Begins }
-        ensures { Goes T.stand T.here T.did self.old steps.old steps.new self.new result }
-    {
-        steps.store(Place::Pending, u64::from(self.by) + 2, Kind::K16);
-        self.goes_to(Stage::Marks);
-        Turn::Moved
-    }
-
-    fn marks<P: Home, T: Steps<P>>(&mut self, steps: &mut T) -> Turn
-        requires agrees { Agrees self.old (T.stand steps.old) }
-        requires stage { self.old.stage ≡ Marks }
-        ensures { Goes T.stand T.here T.did self.old steps.old steps.new self.new result }
-    {
-        steps.store(Place::Phase, phase_word(self.epoch, Code::Mark), Kind::K14);
-        self.goes_to(Stage::Marking);
-        Turn::Moved
-    }
-
-    fn waits<P: Home, T: Steps<P>>(&mut self, steps: &mut T) -> Turn
-        requires agrees { Agrees self.old (T.stand steps.old) }
-        requires stage { self.old.stage ≡ Marking }
-        ensures { Goes T.stand T.here T.did self.old steps.old steps.new self.new result }
-    {
-        let word = steps.load(Place::Pending, Kind::K16);
-        Turn::Idle(Place::Pending, word)
-    }
-
-    fn goes_to(&mut self, stage: Stage)
+    pub(crate) fn goes_to(&mut self, stage: Stage)
         ensures { self.new ≡ record self.old { stage = stage } }
     {
         self.stage = stage;
@@ -244,19 +220,11 @@ fn code_at(stage: Stage) -> Code
     ensures { result ≡ Stages.code_at stage }
 {
     match stage {
-        Stage::Counts(_) => Code::StopA,
-        Stage::Begins => Code::StopA,
-        Stage::Marks => Code::StopA,
-        Stage::Marking => Code::Mark,
+        Stage::Counts(_) | Stage::Begins | Stage::Marks => Code::StopA,
+        Stage::Marking | Stage::Pauses => Code::Mark,
+        Stage::Paused => Code::Weak,
         _ => Code::Idle,
     }
-}
-
-// The word of a phase.
-fn phase_word(epoch: u32, code: Code) -> u64
-    ensures { result ≡ Stages.phase_word epoch code }
-{
-    PhaseWord { epoch, code }.pack()
 }
 
 // The stage behind a mutator that has ended, where n is the number of mutators.
@@ -268,17 +236,5 @@ fn looked(n: u8, mutator: u8) -> Stage
         Stage::Looks(mutator + 1)
     } else {
         Stage::Wants(true)
-    }
-}
-
-// The stage behind a mutator that was counted, where n is the number of mutators.
-fn counted(n: u8, mutator: u8) -> Stage
-    requires { mutator < n }
-    ensures { result ≡ Stages.counted n mutator }
-{
-    if mutator + 1 < n {
-        Stage::Counts(mutator + 1)
-    } else {
-        Stage::Begins
     }
 }

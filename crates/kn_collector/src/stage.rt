@@ -1,4 +1,4 @@
-/// What a collector does next. Behind Mark no stage comes yet.
+/// What a collector does next. Behind `Paused` no other stage comes yet.
 #[derive(Clone, Copy)]
 pub enum Stage {
     /// It loads the state of this mutator; all before it have ended.
@@ -17,6 +17,10 @@ pub enum Stage {
     Begins,
     /// It stores Mark.
     Marks,
-    /// It loads the count of open work.
+    /// Its marker makes the turns.
     Marking,
+    /// It stores Weak, which is the pause.
+    Pauses,
+    /// It loads the state of mutator 0.
+    Paused,
 }

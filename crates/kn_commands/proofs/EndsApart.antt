@@ -22,8 +22,8 @@ ok_and_spent_apart one runs bytes a a' b b' ea eb x y =
     let ran = whole.ran in
     let spent = y.1.spent refl in
     let same = one ran.script spent.script bytes (told_text ran.script bytes a.left a'.left ea ran.read)
-        (told_text spent.script bytes b.left b'.left eb spent.read) in
+    (told_text spent.script bytes b.left b'.left eb spent.read) in
     let left = subst (λ (s : Scripted). IsCoreLeft s false ran.after) same ran.is_run in
     let e : false ≡ true =
-        (runs spent.script false true ran.after spent.after left.is_script left.is_run spent.is_run.is_run).0 in
+    (runs spent.script false true ran.after spent.after left.is_script left.is_run spent.is_run.is_run).0 in
     absurd (cc)

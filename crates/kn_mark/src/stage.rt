@@ -1,4 +1,4 @@
-/// What a marker comes to that owes no unit of work and goes through nothing.
+/// What a marker comes to that owes no unit of work, goes through nothing, and has no root set to claim.
 #[derive(Clone, Copy)]
 pub enum Stage {
     /// It looks at this root set; it came to all before it.

@@ -28,11 +28,11 @@ use Rattle.kn_mutator.specs.After.{awaited, resting_task, told_epoch}
 use Rattle.kn_mutator.specs.Agree.{Agrees, AtTask, CallsAt, HasAnswered, HasEnded, Owes, Stands, UnderWay}
 use Rattle.kn_mutator.specs.Begun.{WaitsIn}
 use Rattle.kn_mutator.specs.Mutating.{Mutating}
-use Rattle.kn_mutator.specs.Tasks.{answer_behind, has_left, has_single, idle_at, is_done, poll_for}
+use Rattle.kn_mutator.specs.Tasks.{answer_behind, has_left, has_single, idle_at, is_done, marker_behind, poll_for}
 use Rattle.kn_mutator.specs.Tasks.{task_at, task_behind, task_by, task_step, waits_on}
 use Rattle.kn_mutator.specs.Turns.{EntersFor, Goes, MakesStep, TurnedAt, asks_none}
 use Rattle.kn_mutator.proofs.Calling.{calls_at, turn_by}
-use Rattle.kn_mutator.proofs.Core.{addresses_made, agrees_then, agrees_with, answers_more, by_is, is_thread, rest_at, rest_is}
+use Rattle.kn_mutator.proofs.Core.{addresses_made, agrees_then, agrees_with, answers_more, by_is, is_thread, loads_joined, rest_at, rest_is}
 use Rattle.kn_mutator.proofs.Making.{goes_by, makes, not_done, rest_goes_on}
 use Rattle.kn_mutator.proofs.Polling.{leaves_at}
 use Rattle.kn_mutator.proofs.Turning.{idle_goes_on}
@@ -87,7 +87,7 @@ module _ (m : Mutating) (a : Stand) (here : ℕ → Bool) (g : Agrees m a here) 
       pub told_agrees : Agrees told b here'
       told_agrees =
           let u : View = logged (epoch_told a.heap a.by a.view Phase (LoadsFor None) f polled n) in
-          agrees_with m a here g idle b here' u view refl refl refl made.lies None m.begun epoch m.locals (resting_task m) told.log
+          agrees_with m a here g idle b here' u view refl refl refl made.lies refl None m.begun epoch m.locals (resting_task m) told.log
           (record {
             locals = g.knows.locals;
             epoch = same;
@@ -108,7 +108,7 @@ module _ (m : Mutating) (a : Stand) (here : ℕ → Bool) (g : Agrees m a here) 
       pub waits_agrees : Agrees waiting b here'
       waits_agrees =
           let u : View = record a.view { position = positions.Waiting; polled = f.word } in
-          agrees_then m a here g idle b here' u view refl refl refl made.lies m.begun (pauses (phase_of f.word)) m.locals Waits m.log
+          agrees_then m a here g idle b here' u view refl refl refl made.lies refl m.begun (pauses (phase_of f.word)) m.locals Waits m.log
           (record { locals = g.knows.locals; epoch = refl; log = g.knows.log; begun = g.knows.begun; target = g.knows.target }) g.births g.width small
           (record { position = refl; owes = at.owes; alloc = at.alloc }, (n, want))
 
@@ -119,14 +119,14 @@ module _ (m : Mutating) (a : Stand) (here : ℕ → Bool) (g : Agrees m a here) 
     pub leaves_waiting : b ≡ record a { view = logged (quietly (record a.view { position = positions.Leaving })) } →
         Agrees (record m { task = Leaves }) b here' × (Leaves ≡ task_by (record m { task = Leaves }) b.view)
     leaves_waiting view = (
-      leaves_at m a here g at.owes idle None f b here' made positions.Leaving a.view.work (inl refl) view,
+      leaves_at m a here g at.owes idle None f b here' made positions.Leaving a.view.work refl (inl refl) view,
       sym (ap (λ (x : Stand). task_at (has_left m) (has_single m.alloc.hands) x.view.header x.view.position) view),
     )
 
     pub leaves_entering : p ≡ positions.Entering → is_run (phase_of f.word).code ≡ false → Agrees (record m { task = Leaves }) b here'
     leaves_entering e run =
         let work : Work = joined_by (phase_of f.word) a.view.work in
-        leaves_at m a here g at.owes idle None f b here' made positions.Entering work (inr refl)
+        leaves_at m a here g at.owes idle None f b here' made positions.Entering work (loads_joined f.word a.view.work) (inr refl)
         (loaded false run ∙ ((λ t. record a { view = logged (poll_at a.heap a.by a.view Phase (LoadsFor None) f (e t) false None) })
         ∙ λ t. record a { view = record a.view { position = (at.position ∙ e) t; work = work } }))
 
@@ -136,20 +136,21 @@ module _ {T : Type 0} (stand : T → Stand) (here : T → ℕ → Bool) (did : T
     (want : m.target ≡ Some n) (p : Position) (at : Stands m (stand s).view p) (w : ℕ) (page : FrameView)
     (made : Made (stand s) (here s) (poll_for None) (found w page) (stand s') (here s')) (kept : did s (poll_for None) (found w page) s')
     (t : Task) (is : m.task ≡ t) (named : task_step m t ≡ Some (poll_for None))
-    (answer : answer_behind t m.target w ≡ idle_at w (waits_on m.target w))
+    (stays : marker_behind t w m.marker ≡ m.marker) (answer : answer_behind t m.target w ≡ idle_at w (waits_on m.target w))
     (turned : (m' : Mutating) (reply : Turn) → MakesStep stand here did moved m s s' m' reply →
     TurnedAt stand here did moved t asks_none m s s' m' reply) where
-  goes_so : (m' : Mutating) → m'.task ≡ task_behind t w m' (stand s').view → m'.alloc ≡ m.alloc → m'.heap ≡ m.heap → m'.by ≡ m.by →
-      m'.calls ≡ m.calls → Agrees m' (stand s') (here s') → (HasEnded m'.task → ⊥) → (idle : Bool) → idle ≡ waits_on (Some n) w →
+  goes_so : (m' : Mutating) → m'.task ≡ task_behind t w m' (stand s').view → m'.alloc ≡ m.alloc → m'.marker ≡ m.marker → m'.heap ≡ m.heap →
+      m'.by ≡ m.by → m'.calls ≡ m.calls → Agrees m' (stand s') (here s') → (HasEnded m'.task → ⊥) → (idle : Bool) →
+      idle ≡ waits_on (Some n) w →
       (q : Mutating) (reply : Turn) → q ≡ m' → reply ≡ idle_at w idle → Goes stand here did moved asks_none m s s' q reply
-  goes_so m' task alloc heap by calls agrees on idle is_idle q reply is_q is_reply =
+  goes_so m' task alloc marker heap by calls agrees on idle is_idle q reply is_q is_reply =
       let told : idle_at w idle ≡ answer_behind t m.target w =
       ap (idle_at w) is_idle ∙ sym (answer ∙ ap (λ target. idle_at w (waits_on target w)) want) in
       subst (λ r. Goes stand here did moved asks_none m s s' q r) (sym is_reply)
       (subst (λ (q : Mutating). Goes stand here did moved asks_none m s s' q (idle_at w idle)) (sym is_q)
       (goes_by stand here did moved m s s' m' (idle_at w idle) asks_none t is
       (turned m' (idle_at w idle)
-      (makes stand here did moved m s s' m' (idle_at w idle) t is (poll_for None) (found w page) named made kept task alloc told))
+      (makes stand here did moved m s s' m' (idle_at w idle) t is (poll_for None) (found w page) named made kept task alloc (marker ∙ sym stays) told))
       heap by calls agrees (not_done (idle_at w idle) m'.task (idle_goes_on w idle) on)))
 
   -- in a run phase, by whether the epoch is done
@@ -167,13 +168,13 @@ module _ {T : Type 0} (stand : T → Stand) (here : T → ℕ → Bool) (did : T
       let f : Found = found w page in
       let m' : Mutating = told_epoch (record m { epoch = pauses (phase_of w) }) n w in
       goes_so m'
-      (told_task m (stand s) (here s) g n want p at f (stand s') (here s') made w (pauses (phase_of w)) refl view ∙ behind m') refl refl refl refl
+      (told_task m (stand s) (here s) g n want p at f (stand s') (here s') made w (pauses (phase_of w)) refl view ∙ behind m') refl refl refl refl refl
       (told_agrees m (stand s) (here s) g n want p at f (stand s') (here s') made w (pauses (phase_of w)) refl view)
       (rest_goes_on (has_left m) (has_single m.alloc.hands)) false (sym (ap (λ d. cond d false (is_run (phase_of w).code)) e))
   in_by false e run behind view =
       let f : Found = found w page in
       let m' : Mutating = record m { epoch = pauses (phase_of w); task = Waits } in
-      goes_so m' (waits_task m (stand s) (here s) g n want p at f (stand s') (here s') made view ∙ behind m') refl refl refl refl
+      goes_so m' (waits_task m (stand s) (here s) g n want p at f (stand s') (here s') made view ∙ behind m') refl refl refl refl refl
       (waits_agrees m (stand s) (here s) g n want p at f (stand s') (here s') made view) (λ x. x) true
       (sym (ap (λ d. cond d false (is_run (phase_of w).code)) e ∙ run))
 
@@ -192,13 +193,13 @@ module _ {T : Type 0} (stand : T → Stand) (here : T → ℕ → Bool) (did : T
       let m' : Mutating = told_epoch m n w in
       goes_so m'
       (told_task m (stand s) (here s) g n want p at f (stand s') (here s') made (stand s).view.polled m.epoch g.knows.epoch view ∙ behind m')
-      refl refl refl refl
+      refl refl refl refl refl
       (told_agrees m (stand s) (here s) g n want p at f (stand s') (here s') made (stand s).view.polled m.epoch g.knows.epoch view)
       (rest_goes_on (has_left m) (has_single m.alloc.hands)) false (sym (ap (λ d. cond d false (is_run (phase_of w).code)) e)) q Moved is_q refl
   out_by false e run behind view q is_q =
       let m' : Mutating = record m { task = Leaves } in
       let h = leaves_waiting m (stand s) (here s) g n want p at (found w page) (stand s') (here s') made view in
-      goes_so m' (h.1 ∙ behind m') refl refl refl refl h.0 (λ x. x) false
+      goes_so m' (h.1 ∙ behind m') refl refl refl refl refl h.0 (λ x. x) false
       (sym (ap (λ d. cond d false (is_run (phase_of w).code)) e ∙ run)) q Moved is_q refl
 
 -- those turns
@@ -222,7 +223,7 @@ module _ {T : Type 0} (stand : T → Stand) (here : T → ℕ → Bool) (did : T
       enters_in is run e ran q reply h =
           let runs = sym e ∙ ran in
           let at = at_entering is in
-          in_by stand here did moved m s s' g n want positions.Entering at w page made kept Enters is refl refl enters_turned (is_done n w) refl runs
+          in_by stand here did moved m s s' g n want positions.Entering at w page made kept Enters is refl refl refl enters_turned (is_done n w) refl runs
           (λ m'. sym (ap (λ r. cond r (task_by m' (stand s').view) Leaves) runs))
           (judged_in m (stand s) (here s) g n want positions.Entering at (found w page) (stand s') (here s') made (inl refl) runs) q reply h.0 h.1
 
@@ -232,8 +233,8 @@ module _ {T : Type 0} (stand : T → Stand) (here : T → ℕ → Bool) (did : T
           let stops = sym e ∙ ran in
           let at = at_entering is in
           let m' : Mutating = record m { task = Leaves } in
-          goes_so stand here did moved m s s' g n want positions.Entering at w page made kept Enters is refl refl enters_turned m'
-          (sym (ap (λ r. cond r (task_by m' (stand s').view) Leaves) stops)) refl refl refl refl
+          goes_so stand here did moved m s s' g n want positions.Entering at w page made kept Enters is refl refl refl enters_turned m'
+          (sym (ap (λ r. cond r (task_by m' (stand s').view) Leaves) stops)) refl refl refl refl refl
           (leaves_entering m (stand s) (here s) g n want positions.Entering at (found w page) (stand s') (here s') made refl stops) (λ x. x) false
           (not_on (is_done n w) (is_run (phase_of w).code) stops) q Moved is_q refl
         where
@@ -246,7 +247,7 @@ module _ {T : Type 0} (stand : T → Stand) (here : T → ℕ → Bool) (did : T
       waits_in is run e ran q reply h =
           let runs = sym e ∙ ran in
           let at = (at_waiting is).0 in
-          in_by stand here did moved m s s' g n want positions.Waiting at w page made kept Waits is refl refl (λ m' reply x. x) (is_done n w) refl runs
+          in_by stand here did moved m s s' g n want positions.Waiting at w page made kept Waits is refl refl refl (λ m' reply x. x) (is_done n w) refl runs
           (λ m'. refl)
           (judged_in m (stand s) (here s) g n want positions.Waiting at (found w page) (stand s') (here s') made (inr refl) runs) q reply h.0 h.1
 
@@ -255,7 +256,7 @@ module _ {T : Type 0} (stand : T → Stand) (here : T → ℕ → Bool) (did : T
       waits_out is run e ran =
           let stops = sym e ∙ ran in
           let at = (at_waiting is).0 in
-          out_by stand here did moved m s s' g n want positions.Waiting at w page made kept Waits is refl refl (λ m' reply x. x) (is_done n w) refl stops
+          out_by stand here did moved m s s' g n want positions.Waiting at w page made kept Waits is refl refl refl (λ m' reply x. x) (is_done n w) refl stops
           (λ m'. refl)
           (judged_out m (stand s) (here s) g n want positions.Waiting at (found w page) (stand s') (here s') made refl stops)
 
@@ -273,7 +274,7 @@ module _ {T : Type 0} (stand : T → Stand) (here : T → ℕ → Bool) (did : T
         let view : stand s' ≡ record a { view = u } =
         made.view ∙ (λ t. record a { view = logged (wanted_at a.heap a.by a.view Want (Raises word) f (at.position t)) }) in
         let agrees : Agrees m' (stand s') (here s') =
-        agrees_with m a (here s) g (subst IsIdle (sym at.alloc) tt) (stand s') (here s') u view refl refl refl made.lies (Some word) m.begun m.epoch
+        agrees_with m a (here s) g (subst IsIdle (sym at.alloc) tt) (stand s') (here s') u view refl refl refl made.lies refl (Some word) m.begun m.epoch
         m.locals Waits m.log
         (record {
           locals = g.knows.locals;
@@ -285,5 +286,5 @@ module _ {T : Type 0} (stand : T → Stand) (here : T → ℕ → Bool) (did : T
         g.births g.width (addresses_made a (here s) d f (stand s') (here s') made g.alloc.good (is_thread m a (here s) g))
         (record { position = refl; owes = at.under_way; alloc = at.alloc }, (word, refl)) in
         turn_by stand here did moved m s s' g Collect h is d f (ap (λ k. Some (does K13 Want (Raises k))) (sym next)) made kept made.lies m'
-        (sym (ap (λ (x : Stand). task_at (has_left m) (has_single m.alloc.hands) x.view.header x.view.position) view)) refl refl refl refl agrees
+        (sym (ap (λ (x : Stand). task_at (has_left m) (has_single m.alloc.hands) x.view.header x.view.position) view)) refl refl refl refl refl agrees
         (λ x. x)

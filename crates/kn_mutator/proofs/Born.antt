@@ -30,7 +30,7 @@ use Rattle.kn_mutator.specs.Mutating.{Mutating}
 use Rattle.kn_mutator.specs.Tasks.{calling_task, has_left, has_single, task_at, task_by}
 use Rattle.kn_mutator.specs.Turns.{StillKnows, GetsCell, Goes, GoesOrStops, TurnedAt, asks_none}
 use Rattle.kn_mutator.specs.Begun.{Bears}
-use Rattle.kn_mutator.proofs.Core.{addresses_made, answers_more, is_thread, rest_at, said_is}
+use Rattle.kn_mutator.proofs.Core.{addresses_made, answers_more, is_thread, rest_at, said_is, share_stays}
 use Rattle.kn_mutator.proofs.Making.{goes_by, moves_on, rest_goes_on}
 use Rattle.kn_mutator.proofs.Ones.{goes_still}
 
@@ -76,6 +76,7 @@ module _ (m : Mutating) (a : Stand) (here : ℕ → Bool) (g : Agrees m a here) 
     on_agrees : (here' : ℕ → Bool) → AllocAgrees alloc b here' → IsGetting alloc.stage → Agrees (record m { alloc = alloc }) b here'
     on_agrees here' agrees gets = record {
       alloc = agrees;
+      marker = share_stays m.marker a b g.marker tells.heap (ap (λ (v : View). v.work) on_view);
       heap = tells.heap ∙ g.heap;
       caller = kept.1 ∙ g.caller;
       knows = record {
@@ -116,6 +117,7 @@ module _ (m : Mutating) (a : Stand) (here : ℕ → Bool) (g : Agrees m a here) 
         let e = tells.view not_long call at_birth.position in
         record {
           alloc = agrees;
+          marker = share_stays m.marker a b g.marker tells.heap (ap (λ (v : View). v.work) e);
           heap = tells.heap ∙ g.heap;
           caller = kept.1 ∙ g.caller;
           knows = record {
@@ -143,6 +145,7 @@ module _ (m : Mutating) (a : Stand) (here : ℕ → Bool) (g : Agrees m a here) 
         ap (λ (v : View). v.locals) e ∙ ap (λ l. slice_set l o.0 address) g.knows.locals in
         record {
           alloc = agrees;
+          marker = share_stays m.marker a b g.marker tells.heap (ap (λ (v : View). v.work) e);
           heap = tells.heap ∙ g.heap;
           caller = kept.1 ∙ g.caller;
           knows = record {
@@ -181,8 +184,8 @@ module _ {T : Type 0} (stand : T → Stand) (here : T → ℕ → Bool) (did : T
       subst (λ l. slice_index l r ≤ 1000000) (sym (ap (λ (x : Stand). x.view.locals) t.made.view ∙ g.knows.locals)) (g.addresses r l)
 
   cell_of : (told : AllocTurn) (m' : Mutating) → AllocTurned stand here did moved m.alloc s s' m'.alloc told →
-      m'.task ≡ task_by m' (stand s').view → GetsCell stand here did moved m s s' m' turns.Moved
-  cell_of told m' turned task = record { told = told; turned = turned; task = task; answer = refl }
+      m'.marker ≡ m.marker → m'.task ≡ task_by m' (stand s').view → GetsCell stand here did moved m s s' m' turns.Moved
+  cell_of told m' turned marker task = record { told = told; turned = turned; marker = marker; task = task; answer = refl }
 
   -- the call goes on
   module _ (turned : AllocTurned stand here did moved m.alloc s s' alloc Moved) (tells : TellsView m.alloc.stage Moved (stand s) (stand s'))
@@ -197,7 +200,7 @@ module _ {T : Type 0} (stand : T → Stand) (here : T → ℕ → Bool) (did : T
       turned = (
         on_follows m (stand s) (here s) g call is alloc (stand s') kept tells,
         subst (λ t. TurnedAt stand here did moved t asks_none m s s' (record m { alloc = alloc }) turns.Moved) (sym is)
-            (cell_of Moved (record m { alloc = alloc }) turned (on_task m (stand s) (here s) g call is alloc (stand s') kept tells)),
+            (cell_of Moved (record m { alloc = alloc }) turned refl (on_task m (stand s) (here s) g call is alloc (stand s') kept tells)),
       );
       agrees = λ never. on_agrees m (stand s) (here s) g call is alloc (stand s') kept tells (here s') (agrees never) (getting behind never);
       unswept = unswept;
@@ -210,12 +213,12 @@ module _ {T : Type 0} (stand : T → Stand) (here : T → ℕ → Bool) (did : T
     settled : AllocAgrees alloc (stand s') (here s')
     settled = agrees (λ h. subst IsSweeping rests h)
 
-    ends_at : (m' : Mutating) → m'.alloc ≡ alloc → m'.heap ≡ m.heap → m'.by ≡ m.by → m'.calls ≡ m.calls →
+    ends_at : (m' : Mutating) → m'.alloc ≡ alloc → m'.marker ≡ m.marker → m'.heap ≡ m.heap → m'.by ≡ m.by → m'.calls ≡ m.calls →
         m'.task ≡ task_by m' (stand s').view → Agrees m' (stand s') (here s') → (HasEnded m'.task → ⊥) → (q : Mutating) → q ≡ m' →
         GoesOrStops stand here did moved asks_none n s s' q turns.Moved
-    ends_at m' alloc_is heap by calls task after on q is_q =
+    ends_at m' alloc_is marker heap by calls task after on q is_q =
         let cell : GetsCell stand here did moved m s s' m' turns.Moved =
-        cell_of told m' (subst (λ k. AllocTurned stand here did moved m.alloc s s' k told) (sym alloc_is) turned) task in
+        cell_of told m' (subst (λ k. AllocTurned stand here did moved m.alloc s s' k told) (sym alloc_is) turned) marker task in
         goes_still stand here did moved asks_none n s s' q turns.Moved
         (subst (λ (p : Mutating). Goes stand here did moved asks_none p s s' q turns.Moved) same
         (subst (λ (q : Mutating). Goes stand here did moved asks_none m s s' q turns.Moved) (sym is_q)
@@ -227,7 +230,7 @@ module _ {T : Type 0} (stand : T → Stand) (here : T → ℕ → Bool) (did : T
   is_full turned tells agrees rests =
       let x = settled Full turned tells agrees rests in
       let m' : Mutating = answered (record m { alloc = alloc }) call replies.Full in
-      ends_at Full turned tells agrees rests m' refl refl refl refl
+      ends_at Full turned tells agrees rests m' refl refl refl refl refl
       (sym (ap (task_at (has_left m) (has_single alloc.hands) (stand s').view.header)
       (full_at m (stand s) (here s) g call is alloc (stand s') kept (here s') x rests tells)))
       (full_agrees m (stand s) (here s) g call is alloc (stand s') kept (here s') x rests tells)
@@ -242,5 +245,5 @@ module _ {T : Type 0} (stand : T → Stand) (here : T → ℕ → Bool) (did : T
       let b = birth_there m.heap call (at_birth m (stand s) (here s) g call is alloc (stand s') kept).birth in
       let after = born_agrees m (stand s) (here s) g call is alloc (stand s') kept (here s') (settled (Born address) turned tells agrees rests) rests
       address tells (addresses_one (one (not_long m (stand s) (here s) g call is alloc (stand s') kept))) b.0 b.1 in
-      ends_at (Born address) turned tells agrees rests (born (record m { alloc = alloc }) call b.0.0 address) refl refl refl refl
+      ends_at (Born address) turned tells agrees rests (born (record m { alloc = alloc }) call b.0.0 address) refl refl refl refl refl
       (sym (ap (task_at (has_left m) (has_single alloc.hands) (stand s').view.header) after.at.position)) after (λ x. x) q (bears b.0 b.1)

@@ -52,7 +52,7 @@ module _ (m : Mutating) (a : Stand) (here : ℕ → Bool) (g : Agrees m a here) 
         let at = calls_at in
         let u : View = logged (saying a.by (epoch_in a.view) call reply 0 (record a.view { position = positions.Between; locals = now })) in
         let m' : Mutating = record m { locals = locals; log = said m call reply 0; task = resting_task m } in
-        agrees_then m a here g idle b here' u view refl refl refl lies m.begun m.epoch locals (resting_task m) (said m call reply 0)
+        agrees_then m a here g idle b here' u view refl refl refl lies refl m.begun m.epoch locals (resting_task m) (said m call reply 0)
         (record { locals = same; epoch = g.knows.epoch; log = said_is m a here g call reply 0; begun = g.knows.begun; target = g.knows.target }) g.births width
         (addresses_made a here d f b here' made g.alloc.good (is_thread m a here g))
         (rest_at m' u refl (answers_more m call at.under_way reply 0) at.untargeted at.alloc)
@@ -70,7 +70,7 @@ module _ (m : Mutating) (a : Stand) (here : ℕ → Bool) (g : Agrees m a here) 
         (record a.view { position = positions.Writing r w 0; locals = slice_set a.view.locals r w })) in
         let l : List ℕ = slice_set m.locals r w in
         let m' : Mutating = referred m call r w in
-        agrees_then m a here g idle b here' u view refl refl refl lies m.begun m.epoch l (Writes r w) (said m call (ref_word w) 0)
+        agrees_then m a here g idle b here' u view refl refl refl lies refl m.begun m.epoch l (Writes r w) (said m call (ref_word w) 0)
         (record {
           locals = ap (λ l. slice_set l r w) g.knows.locals;
           epoch = g.knows.epoch;
@@ -103,7 +103,7 @@ module _ (m : Mutating) (a : Stand) (here : ℕ → Bool) (g : Agrees m a here) 
         let at = calls_at in
         let u : View = logged (quietly (record a.view { header = Some w })) in
         let m' : Mutating = record m { task = Calls call (Some w) } in
-        agrees_then m a here g idle b here' u view refl refl refl lies m.begun m.epoch m.locals (Calls call (Some w)) m.log
+        agrees_then m a here g idle b here' u view refl refl refl lies refl m.begun m.epoch m.locals (Calls call (Some w)) m.log
         (record { locals = g.knows.locals; epoch = g.knows.epoch; log = g.knows.log; begun = g.knows.begun; target = g.knows.target }) g.births g.width
         (addresses_made a here d f b here' made g.alloc.good (is_thread m a here g))
         (record {
@@ -126,13 +126,13 @@ module _ {T : Type 0} (stand : T → Stand) (here : T → ℕ → Bool) (did : T
   is_idle : IsIdle m.alloc.stage
   is_idle = subst IsIdle (sym (calls_at m (stand s) (here s) g call h is).alloc) tt
 
-  pub turn_by : (m' : Mutating) → m'.task ≡ task_by m' (stand s').view → m'.alloc ≡ m.alloc → m'.heap ≡ m.heap → m'.by ≡ m.by →
-      m'.calls ≡ m.calls → Agrees m' (stand s') (here s') → (HasEnded m'.task → ⊥) → (q : Mutating) → q ≡ m' →
-      Goes stand here did moved asks_none m s s' q Moved
-  turn_by m' task alloc heap by calls agrees on q is_q =
+  pub turn_by : (m' : Mutating) → m'.task ≡ task_by m' (stand s').view → m'.alloc ≡ m.alloc → m'.marker ≡ m.marker →
+      m'.heap ≡ m.heap → m'.by ≡ m.by → m'.calls ≡ m.calls → Agrees m' (stand s') (here s') → (HasEnded m'.task → ⊥) →
+      (q : Mutating) → q ≡ m' → Goes stand here did moved asks_none m s s' q Moved
+  turn_by m' task alloc marker heap by calls agrees on q is_q =
       subst (λ (q : Mutating). Goes stand here did moved asks_none m s s' q Moved) (sym is_q)
       (goes_by stand here did moved m s s' m' Moved asks_none (Calls call h) is
-      (makes stand here did moved m s s' m' Moved (Calls call h) is d f named made kept task alloc refl) heap by calls agrees
+      (makes stand here did moved m s s' m' Moved (Calls call h) is d f named made kept task alloc marker refl) heap by calls agrees
       (moves_on m'.task on))
 
   pub turn_answers : (reply : Reply) (now locals : List ℕ) → now ≡ locals → length locals ≡ LOCALS →
@@ -148,7 +148,7 @@ module _ {T : Type 0} (stand : T → Stand) (here : T → ℕ → Bool) (did : T
       let agrees : Agrees m' (stand s') (here s') =
       answered_agrees m a (here s) g call h is d f (stand s') (here s') made is_idle lies reply now locals same width view in
       let between : (stand s').view.position ≡ positions.Between = ap (λ (x : Stand). x.view.position) view in
-      turn_by m' (sym (ap (task_at (has_left m') (has_single m'.alloc.hands) (stand s').view.header) between)) refl refl refl refl agrees
+      turn_by m' (sym (ap (task_at (has_left m') (has_single m'.alloc.hands) (stand s').view.header) between)) refl refl refl refl refl agrees
       (rest_goes_on (has_left m) (has_single m.alloc.hands))
 
   pub turn_refers : (r w : ℕ) →
@@ -165,7 +165,7 @@ module _ {T : Type 0} (stand : T → Stand) (here : T → ℕ → Bool) (did : T
       let agrees : Agrees m' (stand s') (here s') =
       referred_agrees m a (here s) g call h is d f (stand s') (here s') made is_idle lies r w view in
       let writing : (stand s').view.position ≡ positions.Writing r w 0 = ap (λ (x : Stand). x.view.position) view in
-      turn_by m' (sym (ap (task_at (has_left m') (has_single m'.alloc.hands) (stand s').view.header) writing)) refl refl refl refl agrees
+      turn_by m' (sym (ap (task_at (has_left m') (has_single m'.alloc.hands) (stand s').view.header) writing)) refl refl refl refl refl agrees
       (λ x. x)
 
   pub turn_goes_on : (w : ℕ) (t : ℕ × ℕ × FieldKind) → h ≡ None → field_of call ≡ Some t → told_kind m.heap w t.1 ≡ Some t.2 →
@@ -183,7 +183,7 @@ module _ {T : Type 0} (stand : T → Stand) (here : T → ℕ → Bool) (did : T
       let header : (stand s').view.header ≡ Some w = ap (λ (x : Stand). x.view.header) view in
       turn_by m'
       (sym (ap (λ p. task_at (has_left m') (has_single m'.alloc.hands) (stand s').view.header p) calling
-      ∙ (ap (λ birth. calling_task birth call (stand s').view.header) at.no_birth ∙ ap (λ x. Calls call x) header))) refl refl refl refl agrees
+      ∙ (ap (λ birth. calling_task birth call (stand s').view.header) at.no_birth ∙ ap (λ x. Calls call x) header))) refl refl refl refl refl agrees
       (λ x. x)
 
   pub turn_small : (r w : ℕ) → r < LOCALS →

@@ -15,8 +15,14 @@ use Rattle.kn_graph.specs.declared.entries.Entry.{Entry}
 use Rattle.kn_graph.specs.Counts.{births_among}
 use Rattle.kn_graph.specs.Ground.{IsGoodGround}
 use Rattle.kn_graph.proofs.Splits.{calls_of-append}
+use Rattle.kn_marking.specs.declared.work.Work.{Work}
+use Rattle.kn_marking.specs.Shares.{joined}
 use Rattle.kn_rule.specs.declared.positions.Position.TheVariants as positions
+use Rattle.kn_base.specs.declared.kinds.Code.{Code}
+use Rattle.kn_base.specs.declared.kinds.Code.TheVariants as codes
 use Rattle.kn_rule.specs.Allowed.{MayBe}
+use Rattle.kn_rule.specs.MarkSteps.{joined_by}
+use Rattle.kn_rule.specs.Decoding.{phase_of}
 use Rattle.kn_rule.specs.Moves.{stepped, view_after}
 use Rattle.kn_rule.specs.Rule.{Rule}
 use Rattle.kn_rule.specs.Steps.{Step, Found, entry_of, epoch_in}
@@ -30,6 +36,8 @@ use Rattle.kn_safepoint.specs.Kept.{Kept}
 use Rattle.kn_alloc.specs.declared.stage.Stage.TheVariants.{Resting}
 use Rattle.kn_alloc.specs.Agree.{Agrees as AllocAgrees, IsIdle}
 use Rattle.kn_alloc.proofs.Agreements.{stays_while_idle}
+use Rattle.kn_mark.specs.Agree.{IsAtRef, IsShareOf}
+use Rattle.kn_mark.specs.Kept.{Kept as MarkerKept}
 use Rattle.kn_mutator.specs.declared.task.Task.{Task}
 use Rattle.kn_mutator.specs.Agree.{Agrees, HasAnswered, AtTask, UnderWay}
 use Rattle.kn_mutator.specs.After.{resting_task, said}
@@ -57,6 +65,34 @@ module _ (a : Stand) (here : ℕ → Bool) (d : Step) (f : Found) (b : Stand) (h
       let s : State = made.shown.0 in
       let found : s.word Phase ≡ f.word = sym (ap s.word e) ∙ made.shown.3.0 in
       subst (λ w. w < 2 ^ 35) found (phases_are_small a.heap s made.shown.1)
+
+-- a phase that was loaded changes nothing of a share but its epoch
+joins : (e : ℕ) (c : Code) (w : Work) →
+    joined_by (record { epoch = e; code = c }) w ≡ joined w (joined_by (record { epoch = e; code = c }) w).epoch
+joins e codes.Idle w = refl
+joins e codes.StopA w = refl
+joins e codes.Mark w = refl
+joins e codes.Weak w = refl
+joins e codes.StopB w = refl
+joins e codes.Prep w = refl
+joins e codes.Sweep w = refl
+
+pub loads_joined : (w : ℕ) (k : Work) → joined_by (phase_of w) k ≡ joined k (joined_by (phase_of w) k).epoch
+loads_joined w k = joins (phase_of w).epoch (phase_of w).code k
+
+-- behind a step that changed nothing of the caller's share but its epoch, a marker keeps that share
+pub share_behind : (k : MarkerKept) (a b : Stand) → IsShareOf k a → b.heap ≡ a.heap →
+    b.view.work ≡ joined a.view.work b.view.work.epoch → IsShareOf k b
+share_behind k a b s heap work = record {
+  sizes = ap (λ z. z.sizes) heap ∙ s.sizes;
+  share = work ∙ ap (λ (w : Work). joined w b.view.work.epoch) s.share;
+  at_ref = subst (λ z. IsAtRef z k.work.doing) (sym heap) s.at_ref;
+}
+
+pub share_stays : (k : MarkerKept) (a b : Stand) → IsShareOf k a → b.heap ≡ a.heap → b.view.work ≡ a.view.work → IsShareOf k b
+share_stays k a b s heap work =
+    let same : a.view.work ≡ joined a.view.work b.view.work.epoch = ap (λ (w : Work). joined a.view.work w.epoch) (sym work) in
+    share_behind k a b s heap (work ∙ same)
 
 -- what holds of each element of a list holds of this one
 pub all_get : {A : Type 0} (P : A → Type 0) (l : List A) (n : ℕ) (x : A) → AllByRecursion P l → slice_get l n ≡ Some x → P x
@@ -151,29 +187,37 @@ module _ (m : Mutating) (a : Stand) (here : ℕ → Bool) (g : Agrees m a here) 
       (ap (λ (v : View). v.owned) view_is ∙ owned) (ap (λ (v : View). v.taken) view_is ∙ taken)
       (ap (λ (v : View). v.sweep) view_is ∙ sweep) lies
 
-  pub agrees_with : (target : Option ℕ) (n e : ℕ) (locals : List ℕ) (task : Task) (log : List Entry) →
-      Knows (record m { begun = n; epoch = e; target = target; locals = locals; task = task; log = log }) u →
-      u.births ≡ births_among (take n m.calls) → length locals ≡ LOCALS → ((r : ℕ) → r < LOCALS → slice_index b.view.locals r ≤ 1000000) →
-      AtTask task (record m { begun = n; epoch = e; target = target; locals = locals; task = task; log = log }) u →
-      Agrees (record m { begun = n; epoch = e; target = target; locals = locals; task = task; log = log }) b here'
-  agrees_with target n e locals task log knows births width small at =
-      let m' : Mutating = record m { begun = n; epoch = e; target = target; locals = locals; task = task; log = log } in
-      record {
-        alloc = alloc_then;
-        heap = ap (λ (x : Stand). x.heap) view ∙ g.heap;
-        caller = g.caller;
-        knows = subst (Knows m') (sym view_is) knows;
-        planned = g.planned;
-        births = ap (λ (v : View). v.births) view_is ∙ births;
-        width = width;
-        addresses = λ r l. subst (λ l. slice_index l r ≤ 1000000) (ap (λ (v : View). v.locals) view_is ∙ knows.locals) (small r l);
-        at = subst (AtTask task m') (sym view_is) at;
-      }
+  -- the step changed nothing of the caller's share but its epoch
+  module _ (work : u.work ≡ joined a.view.work u.work.epoch) where
+    pub share_then : IsShareOf m.marker b
+    share_then =
+        share_behind m.marker a b g.marker (ap (λ (x : Stand). x.heap) view)
+        (subst (λ (v : View). v.work ≡ joined a.view.work v.work.epoch) (sym view_is) work)
 
-  -- the same, where no other epoch is wanted behind it
-  pub agrees_then : (n e : ℕ) (locals : List ℕ) (task : Task) (log : List Entry) →
-      Knows (record m { begun = n; epoch = e; locals = locals; task = task; log = log }) u → u.births ≡ births_among (take n m.calls) →
-      length locals ≡ LOCALS → ((r : ℕ) → r < LOCALS → slice_index b.view.locals r ≤ 1000000) →
-      AtTask task (record m { begun = n; epoch = e; locals = locals; task = task; log = log }) u →
-      Agrees (record m { begun = n; epoch = e; locals = locals; task = task; log = log }) b here'
-  agrees_then = agrees_with m.target
+    pub agrees_with : (target : Option ℕ) (n e : ℕ) (locals : List ℕ) (task : Task) (log : List Entry) →
+        Knows (record m { begun = n; epoch = e; target = target; locals = locals; task = task; log = log }) u →
+        u.births ≡ births_among (take n m.calls) → length locals ≡ LOCALS → ((r : ℕ) → r < LOCALS → slice_index b.view.locals r ≤ 1000000) →
+        AtTask task (record m { begun = n; epoch = e; target = target; locals = locals; task = task; log = log }) u →
+        Agrees (record m { begun = n; epoch = e; target = target; locals = locals; task = task; log = log }) b here'
+    agrees_with target n e locals task log knows births width small at =
+        let m' : Mutating = record m { begun = n; epoch = e; target = target; locals = locals; task = task; log = log } in
+        record {
+          alloc = alloc_then;
+          marker = share_then;
+          heap = ap (λ (x : Stand). x.heap) view ∙ g.heap;
+          caller = g.caller;
+          knows = subst (Knows m') (sym view_is) knows;
+          planned = g.planned;
+          births = ap (λ (v : View). v.births) view_is ∙ births;
+          width = width;
+          addresses = λ r l. subst (λ l. slice_index l r ≤ 1000000) (ap (λ (v : View). v.locals) view_is ∙ knows.locals) (small r l);
+          at = subst (AtTask task m') (sym view_is) at;
+        }
+
+    -- the same, where no other epoch is wanted behind it
+    pub agrees_then : (n e : ℕ) (locals : List ℕ) (task : Task) (log : List Entry) →
+        Knows (record m { begun = n; epoch = e; locals = locals; task = task; log = log }) u → u.births ≡ births_among (take n m.calls) →
+        length locals ≡ LOCALS → ((r : ℕ) → r < LOCALS → slice_index b.view.locals r ≤ 1000000) →
+        AtTask task (record m { begun = n; epoch = e; locals = locals; task = task; log = log }) u →
+        Agrees (record m { begun = n; epoch = e; locals = locals; task = task; log = log }) b here'
+    agrees_then = agrees_with m.target

@@ -45,9 +45,10 @@ module _ {T : Type 0} (stand : T → Stand) (here : T → ℕ → Bool) (did : T
       (made : Made (stand s) (here s) (poll_for (next_call m passed)) (found w page) b (here s'))
       (kept : did s (poll_for (next_call m passed)) (found w page) s') where
     goes_so : (m' : Mutating) (reply : Turn) → m'.task ≡ polled_task passed w m' b.view → IsAllocBehind m.heap m'.task m.alloc m'.epoch m'.alloc →
-        reply ≡ polled_answer passed w → m'.heap ≡ m.heap → m'.by ≡ m.by → m'.calls ≡ m.calls → Agrees m' b (here s') →
+        m'.marker ≡ m.marker → reply ≡ polled_answer passed w → m'.heap ≡ m.heap → m'.by ≡ m.by → m'.calls ≡ m.calls →
+        Agrees m' b (here s') →
         ((reply ≡ Done) ↔ HasEnded m'.task) → (q : Mutating) → q ≡ m' → Goes stand here did moved told m s s' q reply
-    goes_so m' reply task alloc answer heap by calls agrees done q is_q =
+    goes_so m' reply task alloc marker answer heap by calls agrees done q is_q =
         subst (λ (q : Mutating). Goes stand here did moved told m s s' q reply) (sym is_q)
         (goes_by stand here did moved m s s' m' reply told t is
         (turned m' reply (record {
@@ -58,6 +59,7 @@ module _ {T : Type 0} (stand : T → Stand) (here : T → ℕ → Bool) (did : T
           kept = kept;
           task = task;
           alloc = alloc;
+          marker = marker;
           answer = answer;
         }))
         heap by calls agrees done)
@@ -67,7 +69,7 @@ module _ {T : Type 0} (stand : T → Stand) (here : T → ℕ → Bool) (did : T
         Goes stand here did moved told m s s' q Moved
     behind_left run =
         let m' : Mutating = record m { task = Leaves } in
-        goes_so m' Moved (sym (ap (λ r. cond r (cond passed (task_by m' b.view) Polls) Leaves) run)) refl (stays passed) refl refl refl
+        goes_so m' Moved (sym (ap (λ r. cond r (cond passed (task_by m' b.view) Polls) Leaves) run)) refl refl (stays passed) refl refl refl
         (left m (stand s) (here s) g p ready at (next_call m passed) (found w page) b (here s') made run) (moves_on Leaves (λ x. x))
       where
         stays : (passed : Bool) → Moved ≡ polled_answer passed w
@@ -81,7 +83,7 @@ module _ {T : Type 0} (stand : T → Stand) (here : T → ℕ → Bool) (did : T
         Goes stand here did moved told m s s' q (Idle Phase w)
     behind_none asked made kept =
         let m' : Mutating = record m { epoch = pauses (phase_of w); task = Polls } in
-        goes_so false asked made kept m' (Idle Phase w) (sym (ap (λ r. cond r Polls Leaves) run)) refl (sym (ap (idle_at w) run)) refl refl refl
+        goes_so false asked made kept m' (Idle Phase w) (sym (ap (λ r. cond r Polls Leaves) run)) refl refl (sym (ap (idle_at w) run)) refl refl refl
         (waited m (stand s) (here s) g p ready at None (found w page) b (here s') made run (pauses (phase_of w)) refl refl)
         (not_done (Idle Phase w) Polls (λ e. cc) (λ x. x))
 
@@ -101,7 +103,7 @@ module _ {T : Type 0} (stand : T → Stand) (here : T → ℕ → Bool) (did : T
           call is_call is_call reply e in
           goes_so true asked made kept m' Moved
           (sym (ap (task_at (has_left m') (has_single m'.alloc.hands) b.view.header) between) ∙ task_through m')
-          (alloc_rests m.heap (has_left m') (has_single m.alloc.hands) m.alloc (pauses (phase_of w))) refl refl refl refl
+          (alloc_rests m.heap (has_left m') (has_single m.alloc.hands) m.alloc (pauses (phase_of w))) refl refl refl refl refl
           (answered_at_once m (stand s) (here s) g p ready at (slice_get m.calls m.begun) (found w page) b (here s') made run (pauses (phase_of w)) refl
           call is_call is_call reply e)
           (moves_on m'.task (rest_goes_on (has_left m') (has_single m'.alloc.hands)))
@@ -119,7 +121,7 @@ module _ {T : Type 0} (stand : T → Stand) (here : T → ℕ → Bool) (did : T
           call is_call is_call e birth in
           goes_so true asked made kept m' Moved
           (sym (ap (λ q. calling_task q call None) birth) ∙ (calling_is m' None agrees.at.position agrees.at.header ∙ task_through m'))
-          refl refl refl refl refl agrees (moves_on (Calls call None) (λ x. x))
+          refl refl refl refl refl refl agrees (moves_on (Calls call None) (λ x. x))
 
       behind_birth : alone (record m { epoch = pauses (phase_of w) }) call ≡ None → (q : Mutating) →
           RequestsCell (record m { epoch = pauses (phase_of w) }) call q → Goes stand here did moved told m s s' q Moved
@@ -130,7 +132,7 @@ module _ {T : Type 0} (stand : T → Stand) (here : T → ℕ → Bool) (did : T
           call is_call is_call e q r) in
           goes_so true asked made kept m' Moved
           (sym (ap (λ q. calling_task q call b.view.header) r.birth) ∙ (calling_is m' b.view.header agrees.at.position refl ∙ task_through m'))
-          (r.words, r.asked, r.starts) refl refl refl refl agrees (moves_on (Births call) (λ x. x)) q r.after
+          (r.words, r.asked, r.starts) refl refl refl refl refl agrees (moves_on (Births call) (λ x. x)) q r.after
 
       behind_some : (r : Option Reply) → alone (record m { epoch = pauses (phase_of w) }) call ≡ r → (birth : Bool) → makes_object call ≡ birth →
           (q : Mutating) → BeginsAs (record m { epoch = pauses (phase_of w) }) call r birth q → Goes stand here did moved told m s s' q Moved

@@ -24,7 +24,7 @@ use Rattle.kn_mutator.specs.Agree.{Agrees, AtTask, HasEnded, MayGoHome}
 use Rattle.kn_mutator.specs.Mutating.{Mutating}
 use Rattle.kn_mutator.specs.Tasks.{single_task, task_home}
 use Rattle.kn_mutator.specs.Turns.{Goes, PutsHome, StoresState, TurnedAt, asks_none}
-use Rattle.kn_mutator.proofs.Core.{addresses_made, agrees_then, is_thread}
+use Rattle.kn_mutator.proofs.Core.{addresses_made, agrees_then, is_thread, share_stays}
 use Rattle.kn_mutator.proofs.Making.{goes_by, moves_on}
 
 module _ (m : Mutating) (a : Stand) (here : ℕ → Bool) (g : Agrees m a here) where
@@ -37,6 +37,7 @@ module _ (m : Mutating) (a : Stand) (here : ℕ → Bool) (g : Agrees m a here) 
     home_agrees : (task : Task) → AtTask task (record m { task = task; alloc = alloc }) b.view → Agrees (record m { task = task; alloc = alloc }) b here'
     home_agrees task at = record {
       alloc = agrees;
+      marker = share_stays m.marker a b g.marker tells.heap (ap (λ (v : View). v.work) tells.view);
       heap = tells.heap ∙ g.heap;
       caller = kept.1 ∙ g.caller;
       knows = record {
@@ -88,7 +89,7 @@ module _ (m : Mutating) (a : Stand) (here : ℕ → Bool) (g : Agrees m a here) 
       (made : Made a here (does K2 (StateOf m.by) (Stores n)) f b here') → b ≡ record a { view = record a.view { position = at } } →
       AtTask task (record m { task = task }) (record a.view { position = at }) → Agrees (record m { task = task }) b here'
   went_to n at task f b here' idle made view then =
-      agrees_then m a here g idle b here' (record a.view { position = at }) view refl refl refl made.lies m.begun m.epoch m.locals task m.log
+      agrees_then m a here g idle b here' (record a.view { position = at }) view refl refl refl made.lies refl m.begun m.epoch m.locals task m.log
       (record { locals = g.knows.locals; epoch = g.knows.epoch; log = g.knows.log; begun = g.knows.begun; target = g.knows.target }) g.births g.width
       (addresses_made a here (does K2 (StateOf m.by) (Stores n)) f b here' made g.alloc.good (is_thread m a here g)) then
 
@@ -139,7 +140,7 @@ module _ {T : Type 0} (stand : T → Stand) (here : T → ℕ → Bool) (did : T
         (q : Mutating) → q ≡ sent task → Goes stand here did moved asks_none n s s' q Moved
     sends_to t task is home after on turned =
         goes_so (sent task) Moved t is
-        (turned (record { went = went; task = home ∙ sym (ap (λ t. task_home t alloc.stage) (task_is t is)); answer = refl }))
+        (turned (record { went = went; marker = refl; task = home ∙ sym (ap (λ t. task_home t alloc.stage) (task_is t is)); answer = refl }))
         refl refl refl after (moves_on task on)
 
     unchanged : (t : Task) → n.task ≡ t → record m { alloc = alloc } ≡ sent t
@@ -203,6 +204,7 @@ module _ {T : Type 0} (stand : T → Stand) (here : T → ℕ → Bool) (did : T
           made = made;
           kept = subst (λ s. did s (goes_state k) f s') still.0 h.2;
           alloc = refl;
+          marker = refl;
           behind = refl;
           answer = refl;
         }))

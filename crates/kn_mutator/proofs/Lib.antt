@@ -1,6 +1,7 @@
 pub mod Core
 pub mod Making
 pub mod Turning
+pub mod HelpTurns
 pub mod WayIn
 pub mod Polling
 pub mod Heard

@@ -10,7 +10,7 @@ use Rattle.kn_alloc.specs.Keeps.{Keeps}
 use Rattle.kn_mutator.specs.declared.task.Task.{Task}
 use Rattle.kn_mutator.specs.Agree.{Agrees, HasEnded}
 use Rattle.kn_mutator.specs.Mutating.{Mutating}
-use Rattle.kn_mutator.specs.Tasks.{answer_behind, rest_task, task_behind, task_step}
+use Rattle.kn_mutator.specs.Tasks.{answer_behind, marker_behind, rest_task, task_behind, task_step}
 use Rattle.kn_mutator.specs.Turns.{Goes, IsAllocBehind, MakesStep, TurnedAt}
 
 -- between two calls no request begins
@@ -35,9 +35,10 @@ moves_on t = not_done Moved t (λ e. cc)
 module _ {T : Type 0} (stand : T → Stand) (here : T → ℕ → Bool) (did : T → Step → Found → T → Type 0)
     (moved : T → ℕ → Option FrameView → Option FrameView → T → Type 0) (m : Mutating) (s s' : T) (m' : Mutating) (reply : Turn) where
   pub makes : (t : Task) → m.task ≡ t → (d : Step) (f : Found) → task_step m t ≡ Some d → Made (stand s) (here s) d f (stand s') (here s') →
-      did s d f s' → m'.task ≡ task_behind t f.word m' (stand s').view → m'.alloc ≡ m.alloc → reply ≡ answer_behind t m.target f.word →
+      did s d f s' → m'.task ≡ task_behind t f.word m' (stand s').view → m'.alloc ≡ m.alloc →
+      m'.marker ≡ marker_behind t f.word m.marker → reply ≡ answer_behind t m.target f.word →
       MakesStep stand here did moved m s s' m' reply
-  makes t e d f named made kept task alloc answer = record {
+  makes t e d f named made kept task alloc marker answer = record {
     step = d;
     found = f;
     named = ap (task_step m) e ∙ named;
@@ -45,6 +46,7 @@ module _ {T : Type 0} (stand : T → Stand) (here : T → ℕ → Bool) (did : T
     kept = kept;
     task = task ∙ sym (ap (λ t. task_behind t f.word m' (stand s').view) e);
     alloc = alloc;
+    marker = marker ∙ sym (ap (λ t. marker_behind t f.word m.marker) e);
     answer = answer ∙ sym (ap (λ t. answer_behind t m.target f.word) e);
   }
 

@@ -16,11 +16,12 @@ use Rattle.kn_alloc.specs.Agree.{AtStage, IsGetting, IsSweeping}
 use Rattle.kn_alloc.specs.Keeps.{Keeps}
 use Rattle.kn_alloc.proofs.Homes.{one_home}
 use Rattle.kn_alloc.proofs.Turns.{one_told}
+use Rattle.kn_mark.specs.Steps.{step_of}
 use Rattle.kn_mutator.specs.declared.task.Task.{Task}
 use Rattle.kn_mutator.specs.declared.task.Task.TheVariants as tasks
 use Rattle.kn_mutator.specs.Agree.{Agrees, AtTask}
 use Rattle.kn_mutator.specs.Mutating.{Mutating}
-use Rattle.kn_mutator.specs.Turns.{EntersFor, Goes, GoesOrStops, MakesStep, PollsNext, PutsHome, StoresState, Turned, TurnedAt, asks_none}
+use Rattle.kn_mutator.specs.Turns.{EntersFor, Goes, GoesOrStops, MakesStep, MarksWith, PollsNext, PutsHome, StoresState, Turned, TurnedAt, asks_none}
 
 -- an allocator that agrees is at no sweep
 never_sweeps : (stage : Stage) (alloc : Keeps) (a : Stand) (here : ℕ → Bool) → AtStage stage alloc a here → IsSweeping stage → ⊥
@@ -32,6 +33,9 @@ module _ {T : Type 0} (stand : T → Stand) (here : T → ℕ → Bool) (did : T
     (m' : Mutating) (reply : Turn) where
   one_step : MakesStep stand here did moved m s s' m' reply → OneTurn stand here did moved s s'
   one_step h = inl (record { step = h.step; found = h.found; made = h.made; kept = h.kept })
+
+  one_marked : MarksWith stand here did moved m s s' m' reply → OneTurn stand here did moved s s'
+  one_marked h = inl (record { step = step_of m.marker h.turned.next; found = h.turned.found; made = h.turned.made; kept = h.turned.kept })
 
   one_poll : PollsNext stand here did moved told m s s' m' reply → OneTurn stand here did moved s s'
   one_poll h = inl (record { step = _; found = h.found; made = h.made; kept = h.kept })
@@ -51,6 +55,7 @@ module _ {T : Type 0} (stand : T → Stand) (here : T → ℕ → Bool) (did : T
 
   one_at : (t : Task) → AtTask t m (stand s).view → TurnedAt stand here did moved t told m s s' m' reply → OneTurn stand here did moved s s'
   one_at tasks.Out a h = one_step h
+  one_at tasks.Helps a h = one_marked h
   one_at tasks.GoesIn a h = one_step h
   one_at tasks.Enters a h = one_entering m.target h
   one_at tasks.Polls a h = one_poll h
@@ -77,6 +82,7 @@ module _ {T : Type 0} (stand : T → Stand) (here : T → ℕ → Bool) (did : T
 
   told_at : (t : Task) → TurnedAt stand here did moved t asks_none m s s' m' reply → TurnedAt stand here did moved t told m s s' m' reply
   told_at tasks.Out h = h
+  told_at tasks.Helps h = h
   told_at tasks.GoesIn h = h
   told_at tasks.Enters h = told_entering m.target h
   told_at tasks.Polls h = absurd h.asked

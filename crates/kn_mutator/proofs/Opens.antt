@@ -111,6 +111,7 @@ module _ (s : Scripted) (i : ℕ) (good : IsGoodScript s) (there : i < length s.
       Agrees (new_mutating (ground_of s) i calls) (record { heap = ground_of s; by = i; view = fresh (ground_of s) }) here
   opened built here = record {
     alloc = opens (ground_of s) i here good_ground near;
+    marker = record { sizes = refl; share = refl; at_ref = tt };
     heap = refl;
     caller = refl;
     knows = record { locals = refl; epoch = epoch_at_start (ground_of s); log = refl; begun = refl; target = refl };

@@ -17,6 +17,7 @@ use Rattle.kn_graph.specs.Arguments.{IsInRange}
 use Rattle.kn_graph.specs.Counts.{births_among, makes_object}
 use Rattle.kn_graph.specs.Ground.{Ground}
 use Rattle.kn_marking.specs.declared.work.Work.{Work}
+use Rattle.kn_marking.specs.Shares.{joined}
 use Rattle.kn_rule.specs.declared.positions.Position.{Position}
 use Rattle.kn_rule.specs.declared.positions.Position.TheVariants as positions
 use Rattle.kn_rule.specs.declared.steps.Action.TheVariants.{LoadsFor}
@@ -40,7 +41,8 @@ use Rattle.kn_mutator.specs.After.{answered, resting_task, said}
 use Rattle.kn_mutator.specs.Begun.{IsReady, RequestsCell, alone}
 use Rattle.kn_mutator.specs.Mutating.{Knows, Mutating}
 use Rattle.kn_mutator.specs.Tasks.{next_call}
-use Rattle.kn_mutator.proofs.Core.{addresses_made, agrees_then, all_get, alloc_then, answers_more, by_is, is_thread, rest_at, take_one_more}
+use Rattle.kn_mutator.proofs.Core.{addresses_made, agrees_then, all_get, alloc_then, answers_more, by_is, is_thread, loads_joined}
+use Rattle.kn_mutator.proofs.Core.{rest_at, share_then, take_one_more}
 
 abbrev one : Call → ℕ
 one call = cond (makes_object call) 1 0
@@ -108,10 +110,11 @@ rests_entering m v p none h =
 -- one that was in or entering goes out behind a load of the phase
 module _ (m : Mutating) (a : Stand) (here : ℕ → Bool) (g : Agrees m a here) (owes : Owes m m.target) (idle : IsIdle m.alloc.stage)
     (next : Option Call) (f : Found) (b : Stand) (here' : ℕ → Bool) (made : Made a here (does K1 Phase (LoadsFor next)) f b here') where
-  pub leaves_at : (at : Position) (work : Work) → ((at ≡ positions.Leaving) ⊎ (at ≡ positions.Entering)) →
+  pub leaves_at : (at : Position) (work : Work) → work ≡ joined a.view.work work.epoch → ((at ≡ positions.Leaving) ⊎ (at ≡ positions.Entering)) →
       b ≡ record a { view = record a.view { position = at; work = work } } → Agrees (record m { task = Leaves }) b here'
-  leaves_at at work which view =
-      agrees_then m a here g idle b here' (record a.view { position = at; work = work }) view refl refl refl made.lies m.begun m.epoch m.locals Leaves m.log
+  leaves_at at work share which view =
+      agrees_then m a here g idle b here' (record a.view { position = at; work = work }) view refl refl refl made.lies share m.begun m.epoch m.locals
+      Leaves m.log
       (record { locals = g.knows.locals; epoch = g.knows.epoch; log = g.knows.log; begun = g.knows.begun; target = g.knows.target }) g.births g.width
       (addresses_made a here (does K1 Phase (LoadsFor next)) f b here' made g.alloc.good (is_thread m a here g)) (which, owes, idle)
 
@@ -208,11 +211,11 @@ module _ (m : Mutating) (a : Stand) (here : ℕ → Bool) (g : Agrees m a here) 
         b ≡ record a { view = logged (poll_at a.heap a.by a.view Phase (LoadsFor next) f p false next) } → Agrees (record m { task = Leaves }) b here'
     left_at (inl e) view =
         let work : Work = joined_by (phase_of f.word) a.view.work in
-        leaves_at m a here g owes idle next f b here' made positions.Entering work (inr refl)
+        leaves_at m a here g owes idle next f b here' made positions.Entering work (loads_joined f.word a.view.work) (inr refl)
         (view ∙ ((λ t. record a { view = logged (poll_at a.heap a.by a.view Phase (LoadsFor next) f (e t) false next) })
         ∙ λ t. record a { view = record a.view { position = (at.0.position ∙ e) t; work = work } }))
     left_at (inr e) view =
-        leaves_at m a here g owes idle next f b here' made positions.Leaving a.view.work (inl refl)
+        leaves_at m a here g owes idle next f b here' made positions.Leaving a.view.work refl (inl refl)
         (view ∙ λ t. record a { view = logged (poll_at a.heap a.by a.view Phase (LoadsFor next) f (e t) false next) })
 
     pub left : is_run (phase_of f.word).code ≡ false → Agrees (record m { task = Leaves }) b here'
@@ -236,7 +239,7 @@ module _ (m : Mutating) (a : Stand) (here : ℕ → Bool) (g : Agrees m a here) 
           let u : View = record a.view { position = positions.Between; polled = f.word } in
           let e : b ≡ record a { view = u } =
           ran ∙ (λ t. record a { view = logged (poll_run a.heap a.by a.view Phase (LoadsFor next) f (none t)) }) in
-          agrees_then m a here g idle b here' u e refl refl refl made.lies m.begun epoch m.locals Polls m.log
+          agrees_then m a here g idle b here' u e refl refl refl made.lies refl m.begun epoch m.locals Polls m.log
           (record { locals = g.knows.locals; epoch = sym epoch_is; log = g.knows.log; begun = g.knows.begun; target = g.knows.target }) g.births g.width small (
             record {
               position = refl;
@@ -285,7 +288,7 @@ module _ (m : Mutating) (a : Stand) (here : ℕ → Bool) (g : Agrees m a here) 
             let u : View = logged (saying a.by (pauses (phase_of f.word)) call reply 0 (with_call a.heap a.by a.view Phase
             (LoadsFor next) f call positions.Between)) in
             let answers = answers_more begun_one call under reply 0 in
-            agrees_then m a here g idle b here' u (begun_view (Some reply) e) refl refl refl made.lies (m.begun + 1) epoch m.locals
+            agrees_then m a here g idle b here' u (begun_view (Some reply) e) refl refl refl made.lies refl (m.begun + 1) epoch m.locals
             (resting_task begun_one) (said begun_one call reply 0)
             (record {
               locals = g.knows.locals;
@@ -313,7 +316,7 @@ module _ (m : Mutating) (a : Stand) (here : ℕ → Bool) (g : Agrees m a here) 
 
         pub goes_on : alone now call ≡ None → makes_object call ≡ false → Agrees (record begun_one { task = Calls call None }) b here'
         goes_on e birth =
-            agrees_then m a here g idle b here' calling (begun_view None e) refl refl refl made.lies (m.begun + 1) epoch m.locals (Calls call None)
+            agrees_then m a here g idle b here' calling (begun_view None e) refl refl refl made.lies refl (m.begun + 1) epoch m.locals (Calls call None)
             m.log (record { locals = g.knows.locals; epoch = epoch_then; log = g.knows.log; begun = ap (λ n. n + 1) g.knows.begun; target = g.knows.target })
             births_then g.width small
             (record {
@@ -349,6 +352,7 @@ module _ (m : Mutating) (a : Stand) (here : ℕ → Bool) (g : Agrees m a here) 
             let new : Mutating = record begun_one { task = task; alloc = r.alloc } in
             subst (λ (q : Mutating). Agrees q b here') (sym r.after) (record {
               alloc = r.agrees b here' before has;
+              marker = share_then m a here g idle b here' calling view refl refl refl made.lies refl;
               heap = heap;
               caller = r.by ∙ g.caller;
               knows = subst (Knows new) (sym v) (knows_then task r.alloc);

@@ -1,5 +1,7 @@
 -- A step of a task, and the turn that it makes.
 use Rattle.std.proofs.Common.{◌≡◌, ℕ, Bool, true, false, cond, Option, None, refl, sym, ap, ◌∙◌, subst}
+use Rattle.kn_base.specs.declared.kinds.Code.{Code}
+use Rattle.kn_base.specs.declared.kinds.Code.TheVariants as codes
 use Rattle.kn_base.specs.declared.places.Place.TheVariants.{Local, Phase, State as StateOf}
 use Rattle.kn_rule.specs.declared.positions.Position.TheVariants as positions
 use Rattle.kn_rule.specs.declared.steps.Action.TheVariants.{LoadsFor, Stores}
@@ -24,13 +26,13 @@ use Rattle.kn_mutator.specs.declared.task.Task.TheVariants.{Out, GoesIn, Enters,
 use Rattle.kn_mutator.specs.Agree.{Agrees, AtTask, HasEnded, Rests, Stands}
 use Rattle.kn_mutator.specs.After.{resting_task}
 use Rattle.kn_mutator.specs.Mutating.{Mutating}
-use Rattle.kn_mutator.specs.Tasks.{has_left, has_single, idle_at, poll_for, task_at, task_out, told}
+use Rattle.kn_mutator.specs.Tasks.{has_left, has_single, idle_at, poll_for, started_at, task_at, task_for, task_out, told}
 use Rattle.kn_mutator.specs.Turns.{Goes, asks_none}
 use Rattle.kn_mutator.proofs.Making.{goes_by, makes, moves_on, not_done, rest_goes_on}
-use Rattle.kn_mutator.proofs.Core.{addresses_made, agrees_then, is_thread, rest_at}
+use Rattle.kn_mutator.proofs.Core.{addresses_made, agrees_then, is_thread, loads_joined, rest_at}
 
 -- behind a look by one that is out: a phase of Mark brings its epoch
-abbrev looking : View → ℕ → View
+abbrev pub looking : View → ℕ → View
 looking v w = record v { work = joined_by (phase_of w) v.work }
 
 module _ (m : Mutating) (a : Stand) (here : ℕ → Bool) (g : Agrees m a here) where
@@ -48,7 +50,7 @@ module _ (m : Mutating) (a : Stand) (here : ℕ → Bool) (g : Agrees m a here) 
     went_in f b here' made =
         let r = at_in in
         let u : View = record a.view { position = positions.Entering } in
-        agrees_then m a here g (subst IsIdle (sym r.alloc) tt) b here' u made.view refl refl refl made.lies m.begun m.epoch m.locals Enters m.log
+        agrees_then m a here g (subst IsIdle (sym r.alloc) tt) b here' u made.view refl refl refl made.lies refl m.begun m.epoch m.locals Enters m.log
         (record { locals = g.knows.locals; epoch = g.knows.epoch; log = g.knows.log; begun = g.knows.begun; target = g.knows.target }) g.births g.width
         (addresses_made a here (does K2 (StateOf m.by) (Stores 1)) f b here' made g.alloc.good (is_thread m a here g))
         (record { position = refl; owes = r.owes; alloc = r.alloc })
@@ -58,18 +60,24 @@ module _ (m : Mutating) (a : Stand) (here : ℕ → Bool) (g : Agrees m a here) 
     at_out : Stands m a.view positions.Out
     at_out = at_task Out is
 
+    pub looked_view : (f : Found) (b : Stand) (here' : ℕ → Bool) → Made a here (poll_for None) f b here' →
+        b ≡ record a { view = looking a.view f.word }
+    unfolding at_out
+    looked_view f b here' made =
+        made.view
+        ∙ (λ t. record a {
+          view = logged (Rattle.kn_rule.specs.Outcomes.poll_at a.heap a.by a.view Phase (LoadsFor None) f (at_out.position t)
+              (is_run (phase_of f.word).code) None);
+        })
+
     pub looked : (f : Found) (b : Stand) (here' : ℕ → Bool) → Made a here (poll_for None) f b here' → (task : Task) →
         (Stands m a.view positions.Out → AtTask task (record m { task = task }) (looking a.view f.word)) → Agrees (record m { task = task }) b here'
     unfolding at_out
     looked f b here' made task at =
         let u : View = looking a.view f.word in
-        let e : b ≡ record a { view = u } =
-        made.view
-        ∙ (λ t. record a {
-          view = logged (Rattle.kn_rule.specs.Outcomes.poll_at a.heap a.by a.view Phase (LoadsFor None) f (at_out.position t)
-              (is_run (phase_of f.word).code) None);
-        }) in
-        agrees_then m a here g (subst IsIdle (sym at_out.alloc) tt) b here' u e refl refl refl made.lies m.begun m.epoch m.locals task m.log
+        let e : b ≡ record a { view = u } = looked_view f b here' made in
+        agrees_then m a here g (subst IsIdle (sym at_out.alloc) tt) b here' u e refl refl refl made.lies (loads_joined f.word a.view.work) m.begun
+        m.epoch m.locals task m.log
         (record { locals = g.knows.locals; epoch = g.knows.epoch; log = g.knows.log; begun = g.knows.begun; target = g.knows.target }) g.births g.width
         (addresses_made a here (poll_for None) f b here' made g.alloc.good (is_thread m a here g)) (at at_out)
 
@@ -85,7 +93,7 @@ module _ (m : Mutating) (a : Stand) (here : ℕ → Bool) (g : Agrees m a here) 
         let u : View = record a.view { position = positions.Between } in
         let e : b ≡ record a { view = u } =
         made.view ∙ (λ t. record a { view = logged (write_at a.heap a.by a.view (Local m.by r) (Stores w) f (at_write.position t)) }) in (
-          agrees_then m a here g (subst IsIdle (sym at_write.alloc) tt) b here' u e refl refl refl made.lies m.begun m.epoch m.locals (resting_task m)
+          agrees_then m a here g (subst IsIdle (sym at_write.alloc) tt) b here' u e refl refl refl made.lies refl m.begun m.epoch m.locals (resting_task m)
               m.log (record { locals = g.knows.locals; epoch = g.knows.epoch; log = g.knows.log; begun = g.knows.begun; target = g.knows.target })
               g.births g.width
               (addresses_made a here (does K3 (Local m.by r) (Stores w)) f b here' made g.alloc.good (is_thread m a here g))
@@ -118,34 +126,47 @@ module _ {T : Type 0} (stand : T → Stand) (here : T → ℕ → Bool) (did : T
         let entering : (stand s').view.position ≡ positions.Entering = agrees.at.position in
         goes_by stand here did moved m s s' m' Moved asks_none GoesIn is
         (makes stand here did moved m s s' m' Moved GoesIn is d f refl made kept
-        (sym (ap (task_at (has_left m') (has_single m'.alloc.hands) (stand s').view.header) entering)) refl refl)
+        (sym (ap (task_at (has_left m') (has_single m'.alloc.hands) (stand s').view.header) entering)) refl refl refl)
         refl refl refl agrees (moves_on Enters (λ x. x))
 
   -- a look by a caller that is out
   module _ (is : m.task ≡ Out) (f : Found) (made : Made (stand s) (here s) (poll_for None) f (stand s') (here s'))
       (kept : did s (poll_for None) f s') where
-    looked_as : (task : Task) → AtTask task (record m { task = task }) (looking (stand s).view f.word) →
-        task ≡ cond (is_run (phase_of f.word).code) GoesIn Out → (HasEnded task → ⊥) →
+    looked_as : (task : Task) → AtTask task (record m { task = task }) (looking (stand s).view f.word) → (c : Code) → (phase_of f.word).code ≡ c →
+        task ≡ task_out c → m.marker ≡ started_at c (phase_of f.word).epoch m.marker → (HasEnded task → ⊥) →
         Goes stand here did moved asks_none m s s' (record m { task = task }) (told (answer_behind stages.Out f.word))
-    looked_as task at e on =
+    looked_as task at c e to stays on =
         let reply : Turn = told (answer_behind stages.Out f.word) in
         let agrees = looked m (stand s) (here s) g is f (stand s') (here s') made task (λ _. at) in
         goes_by stand here did moved m s s' (record m { task = task }) reply asks_none Out is
-        (makes stand here did moved m s s' (record m { task = task }) reply Out is (poll_for None) f refl made kept e refl refl)
+        (makes stand here did moved m s s' (record m { task = task }) reply Out is (poll_for None) f refl made kept (to ∙ sym (ap task_out e)) refl
+        (stays ∙ sym (ap (λ c. started_at c (phase_of f.word).epoch m.marker) e)) refl)
         refl refl refl agrees (not_done reply task (told_goes_on (answer_behind stages.Out f.word)) on)
 
     at_here : Stands m (stand s).view positions.Out
     at_here = subst (λ t. AtTask t m (stand s).view) is g.at
 
-    -- by whether it loaded a run phase
-    pub looks : (run : Bool) → is_run (phase_of f.word).code ≡ run →
-        Goes stand here did moved asks_none m s s' (record m { task = task_out (cond run stages.GoesIn stages.Out) }) (told (answer_behind stages.Out f.word))
-    looks true e =
-        looked_as GoesIn (record { position = at_here.position; owes = at_here.owes; alloc = at_here.alloc })
-        (sym (ap (λ q. cond q GoesIn Out) e)) (λ x. x)
-    looks false e =
-        looked_as Out (record { position = at_here.position; owes = at_here.owes; alloc = at_here.alloc })
-        (sym (ap (λ q. cond q GoesIn Out) e)) (λ x. x)
+    goes : (c : Code) → (phase_of f.word).code ≡ c → GoesIn ≡ task_out c → m.marker ≡ started_at c (phase_of f.word).epoch m.marker →
+        Goes stand here did moved asks_none m s s' (record m { task = GoesIn }) (told (answer_behind stages.Out f.word))
+    goes c e to stays =
+        looked_as GoesIn (record { position = at_here.position; owes = at_here.owes; alloc = at_here.alloc }) c e to stays (λ x. x)
+
+    looks_on : (c : Code) → (phase_of f.word).code ≡ c → Out ≡ task_out c → m.marker ≡ started_at c (phase_of f.word).epoch m.marker →
+        Goes stand here did moved asks_none m s s' (record m { task = Out }) (told (answer_behind stages.Out f.word))
+    looks_on c e to stays =
+        looked_as Out (record { position = at_here.position; owes = at_here.owes; alloc = at_here.alloc }) c e to stays (λ x. x)
+
+    -- by the phase that it loaded, which is not Mark
+    pub looks : (c : Code) → (phase_of f.word).code ≡ c → (c ≡ codes.Mark → ⊥) →
+        Goes stand here did moved asks_none m s s' (record m { task = task_for (cond (is_run c) stages.GoesIn stages.Out) })
+        (told (answer_behind stages.Out f.word))
+    looks codes.Idle e other = goes codes.Idle e refl refl
+    looks codes.StopA e other = looks_on codes.StopA e refl refl
+    looks codes.Mark e other = absurd (other refl)
+    looks codes.Weak e other = goes codes.Weak e refl refl
+    looks codes.StopB e other = looks_on codes.StopB e refl refl
+    looks codes.Prep e other = looks_on codes.Prep e refl refl
+    looks codes.Sweep e other = goes codes.Sweep e refl refl
 
   pub writes : (r w : ℕ) → m.task ≡ Writes r w → (by : ℕ) → by ≡ m.by → (v : ℕ) → v ≡ w → (f : Found) →
       Made (stand s) (here s) (does K3 (Local by r) (Stores v)) f (stand s') (here s') → did s (does K3 (Local by r) (Stores v)) f s' →
@@ -161,5 +182,5 @@ module _ {T : Type 0} (stand : T → Stand) (here : T → ℕ → Bool) (did : T
       subst (λ q. Goes stand here did moved asks_none m s s' q Moved) (sym is_q)
       (goes_by stand here did moved m s s' m' Moved asks_none (Writes r w) is
       (makes stand here did moved m s s' m' Moved (Writes r w) is d f refl made' kept'
-      (sym (ap (task_at (has_left m') (has_single m'.alloc.hands) (stand s').view.header) h.1)) refl refl)
+      (sym (ap (task_at (has_left m') (has_single m'.alloc.hands) (stand s').view.header) h.1)) refl refl refl)
       refl refl refl h.0 (moves_on (resting_task m) (rest_goes_on (has_left m) (has_single m.alloc.hands))))

@@ -1,5 +1,6 @@
 -- The turns of the safepoint on the way in.
 use Rattle.std.proofs.Common.{◌≡◌, ℕ, ◌<◌, ◌^◌, inl, Bool, true, false, cond, length, Option, Some, None, refl, sym, ap, ◌∙◌, subst}
+use Rattle.kn_base.specs.declared.kinds.Code.{Code}
 use Rattle.kn_base.specs.declared.phase_word.PhaseWord.{PhaseWord}
 use Rattle.kn_base.specs.Pages.{FrameView}
 use Rattle.kn_base.specs.Words.{IsPhaseWord, packed_phase}
@@ -20,16 +21,18 @@ use Rattle.kn_safepoint.specs.Agree.{Agrees as SafepointAgrees, MayLeave, MayTur
 use Rattle.kn_safepoint.specs.Kept.{Kept}
 use Rattle.kn_safepoint.specs.Stages.{answer_behind, leave_step}
 use Rattle.kn_safepoint.specs.Turns.{Left, Turned as SafepointTurned}
+use Rattle.kn_mark.specs.Kept.{started}
 use Rattle.kn_mutator.specs.declared.task.Task.{Task}
-use Rattle.kn_mutator.specs.declared.task.Task.TheVariants.{Out, GoesIn, Enters, Leaves}
+use Rattle.kn_mutator.specs.declared.task.Task.TheVariants.{Out, Helps, GoesIn, Enters, Leaves}
 use Rattle.kn_mutator.specs.Agree.{Agrees, AtTask, Owes}
 use Rattle.kn_mutator.specs.Begun.{HearsAs, WaitsIn}
 use Rattle.kn_mutator.specs.Mutating.{Mutating}
-use Rattle.kn_mutator.specs.Tasks.{next_call, poll_for, task_out, told}
+use Rattle.kn_mutator.specs.Tasks.{next_call, poll_for, task_for, told}
 use Rattle.kn_mutator.specs.Turns.{Goes, asks_none}
 use Rattle.kn_mutator.proofs.Awaiting.{enters_in, enters_out}
 use Rattle.kn_mutator.proofs.Core.{by_is, has_room, is_thread, phase_made, safepoint_agrees}
 use Rattle.kn_mutator.proofs.Heard.{heard}
+use Rattle.kn_mutator.proofs.HelpTurns.{starts_to_help}
 use Rattle.kn_mutator.proofs.Polling.{may_enter_at}
 use Rattle.kn_mutator.proofs.Turning.{goes_in, looks}
 
@@ -54,17 +57,34 @@ module _ {T : Type 0} (stand : T → Stand) (here : T → ℕ → Bool) (did : T
       (h.found, h.made, h.kept)
 
   module _ (g : Agrees m (stand s) (here s)) (k k' : Kept) (enter : Enter) where
-    pub looks_out : m.task ≡ Out → k ≡ record { by = m.by; stage = stages.Out } → SafepointTurned stand here did k None s s' k' enter →
-        (q : Mutating) (reply : Turn) (stage : Stage) (task : Task) → stage ≡ k'.stage → task ≡ task_out stage → q ≡ record m { task = task } →
-        reply ≡ told enter → Goes stand here did moved asks_none m s s' q reply
-    looks_out is at turned q reply stage task same is_task is_q is_reply =
-        let t = turned_at stages.Out None k k' enter at turned in
-        let run = is_run (phase_of t.found.word).code in
-        let after : task ≡ task_out (cond run stages.GoesIn stages.Out) = is_task ∙ ap task_out (same ∙ ap (λ (k : Kept). k.stage) t.after) in
-        let answer : Turn = told (answer_behind stages.Out t.found.word) in
-        subst (λ r. Goes stand here did moved asks_none m s s' q r) (sym (is_reply ∙ ap told t.answer))
-        (subst (λ (q : Mutating). Goes stand here did moved asks_none m s s' q answer) (sym (is_q ∙ λ t. record m { task = after t }))
-        (looks stand here did moved m s s' g is t.found t.made t.kept run refl))
+    module _ (is : m.task ≡ Out) (at : k ≡ record { by = m.by; stage = stages.Out }) (turned : SafepointTurned stand here did k None s s' k' enter) where
+      abbrev out : SafepointTurned stand here did (record { by = m.by; stage = stages.Out }) None s s' k' enter
+      out = turned_at stages.Out None k k' enter at turned
+
+      abbrev code : Code
+      code = (phase_of out.found.word).code
+
+      pub looks_out : ((e : ℕ) → enter ≡ enters.Help e → ⊥) → (q : Mutating) (reply : Turn) (stage : Stage) (task : Task) → stage ≡ k'.stage →
+          task ≡ task_for stage → q ≡ record m { task = task } → reply ≡ told enter → Goes stand here did moved asks_none m s s' q reply
+      looks_out other q reply stage task same is_task is_q is_reply =
+          let after : task ≡ task_for (cond (is_run code) stages.GoesIn stages.Out) =
+          is_task ∙ ap task_for (same ∙ ap (λ (k : Kept). k.stage) out.after) in
+          let answer : Turn = told (answer_behind stages.Out out.found.word) in
+          subst (λ r. Goes stand here did moved asks_none m s s' q r) (sym (is_reply ∙ ap told out.answer))
+          (subst (λ (q : Mutating). Goes stand here did moved asks_none m s s' q answer) (sym (is_q ∙ λ t. record m { task = after t }))
+          (looks stand here did moved m s s' g is out.found out.made out.kept code refl
+          (λ e. other (phase_of out.found.word).epoch ((out.help (phase_of out.found.word).epoch).1 (e, refl)))))
+
+      pub helps_out : (e : ℕ) → enter ≡ enters.Help e → (q : Mutating) (reply : Turn) →
+          q ≡ record m { marker = started m.marker e; task = Helps } → reply ≡ Moved → Goes stand here did moved asks_none m s s' q reply
+      helps_out e is_help q reply is_q is_reply =
+          let h = (out.help e).0 is_help in
+          subst (λ r. Goes stand here did moved asks_none m s s' q r) (sym is_reply)
+          (subst (λ (q : Mutating). Goes stand here did moved asks_none m s s' q Moved) (sym (is_q ∙ λ t. record m {
+            marker = started m.marker (sym h.1 t);
+            task = Helps;
+          }))
+          (starts_to_help stand here did moved m s s' g is out.found out.made out.kept h.0))
 
     pub goes_on_in : m.task ≡ GoesIn → k ≡ record { by = m.by; stage = stages.GoesIn } → SafepointTurned stand here did k None s s' k' enter →
         (q : Mutating) → q ≡ record m { task = Enters } → Goes stand here did moved asks_none m s s' q Moved

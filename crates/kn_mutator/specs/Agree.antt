@@ -17,10 +17,12 @@ use Rattle.kn_rule.specs.Allowed.{IsBuilt}
 use Rattle.kn_rule.specs.Requests.{field_of, told_kind}
 use Rattle.kn_rule.specs.Views.{View}
 use Rattle.kn_steps.specs.Made.{Stand}
+use Rattle.kn_mark.specs.Agree.{IsShareOf}
+use Rattle.kn_mark.specs.Kept.{Kept}
 use Rattle.kn_alloc.specs.declared.stage.Stage.TheVariants.{Resting}
 use Rattle.kn_alloc.specs.Agree.{Agrees as AllocAgrees, IsGetting, IsIdle}
 use Rattle.kn_mutator.specs.declared.task.Task.{Task}
-use Rattle.kn_mutator.specs.declared.task.Task.TheVariants.{Out, GoesIn, Enters, Polls, Calls, Births, Writes, Waits}
+use Rattle.kn_mutator.specs.declared.task.Task.TheVariants.{Out, Helps, GoesIn, Enters, Polls, Calls, Births, Writes, Waits}
 use Rattle.kn_mutator.specs.declared.task.Task.TheVariants.{SendsSingle, Leaves, Ends, Ended}
 use Rattle.kn_mutator.specs.Begun.{alone}
 use Rattle.kn_mutator.specs.Mutating.{Knows, Mutating}
@@ -107,9 +109,15 @@ pub record BirthAt (m : Mutating) (v : View) (call : Call) : Type 0 where
   pub under_way : UnderWay m.log m.calls m.begun call
   pub alloc : IsGetting m.alloc.stage
 
+-- the view's share is of the epoch that its marker was started for, which is one of a marking
+pub record HelpsOn (k : Kept) (v : View) : Type 0 where
+  pub epoch : v.work.epoch ≡ k.work.epoch
+  pub begun : 0 < v.work.epoch
+
 -- what each task needs
 abbrev pub AtTask : Task → Mutating → View → Type 0
 AtTask Out m v = Stands m v positions.Out
+AtTask Helps m v = Stands m v positions.Out × HelpsOn m.marker v
 AtTask GoesIn m v = Stands m v positions.Out
 AtTask Enters m v = Stands m v positions.Entering
 AtTask Polls m v = Rests m v positions.Between × HasLeft m
@@ -122,9 +130,11 @@ AtTask Leaves m v = ((v.position ≡ positions.Leaving) ⊎ (v.position ≡ posi
 AtTask Ends m v = ((v.position ≡ positions.Between) ⊎ (v.position ≡ positions.Out)) × MayGoHome m × (m.begun ≡ length m.calls)
 AtTask Ended m v = (v.position ≡ positions.Ended) × HasAnswered m.log m.calls m.begun × (m.begun ≡ length m.calls)
 
--- whose mutator it is, over which heap; what it keeps of the view is what the view has, and its allocator agrees with it
+-- whose mutator it is, over which heap; what it keeps of the view is what the view has, its allocator agrees with it, and its marker
+-- keeps the view's share
 pub record Agrees (m : Mutating) (a : Stand) (here : ℕ → Bool) : Type 0 where
   pub alloc : AllocAgrees m.alloc a here
+  pub marker : IsShareOf m.marker a
   pub heap : a.heap ≡ m.heap
   pub caller : m.alloc.by ≡ m.by
   pub knows : Knows m a.view

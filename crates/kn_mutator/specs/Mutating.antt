@@ -7,11 +7,12 @@ use Rattle.kn_graph.specs.Ground.{Ground}
 use Rattle.kn_rule.specs.Steps.{epoch_in}
 use Rattle.kn_rule.specs.Views.{View}
 use Rattle.kn_alloc.specs.Keeps.{Keeps, new_keeps}
+use Rattle.kn_mark.specs.Kept.{Kept, new_kept}
 use Rattle.kn_mutator.specs.declared.task.Task.{Task}
 use Rattle.kn_mutator.specs.declared.task.Task.TheVariants.{Out, Ends}
 
 -- over a heap of these sizes and layouts: the number of its thread and the thread's calls, how many of them it has begun, the
--- epoch of its last poll, the epoch that its `gc` waits for, its locals, what it does next, its allocator, and its log
+-- epoch of its last poll, the epoch that its `gc` waits for, its locals, what it does next, its allocator, its marker, and its log
 pub record Mutating : Type 0 where
   pub heap : Ground
   pub by : ℕ
@@ -22,6 +23,7 @@ pub record Mutating : Type 0 where
   pub locals : List ℕ
   pub task : Task
   pub alloc : Keeps
+  pub marker : Kept
   pub log : List Entry
 
 -- a thread without calls ends at once
@@ -41,6 +43,7 @@ new_mutating z c calls = record {
   locals = replicate LOCALS 0;
   task = first_task calls;
   alloc = new_keeps z.sizes c;
+  marker = new_kept z.sizes;
   log = [];
 }
 

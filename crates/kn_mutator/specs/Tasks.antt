@@ -1,6 +1,9 @@
 -- What a mutator does next: the step of each task, and the task behind it.
 use Rattle.std.specs.Prelude.{ℕ, ◌+◌, Bool, true, false, cond, List, length, Option, Some, None, is_some, nat_le, nat_lt, slice_get, slice_index}
 use Rattle.kn_base.specs.declared.classes.TheConstants.{SINGLE_CLASS}
+use Rattle.kn_base.specs.declared.kinds.Code.{Code}
+use Rattle.kn_base.specs.declared.kinds.Code.TheVariants as codes
+use Rattle.kn_base.specs.declared.phase_word.PhaseWord.{PhaseWord}
 use Rattle.kn_base.specs.declared.places.Place.TheVariants.{Phase, Want, State, Local, Global, Body}
 use Rattle.kn_graph.specs.declared.calls.Call.{Call}
 use Rattle.kn_graph.specs.declared.calls.Call.TheVariants.{Copy, Clear, Get, Set, Put, Read, GlobalSet, GlobalGet, Collect}
@@ -23,8 +26,11 @@ use Rattle.kn_safepoint.specs.Stages.{answer_behind as safepoint_answer}
 use Rattle.kn_alloc.specs.declared.stage.Hand.{Hand}
 use Rattle.kn_alloc.specs.declared.stage.Stage.{Stage as AllocStage}
 use Rattle.kn_alloc.specs.declared.stage.Stage.TheVariants.{Resting}
+use Rattle.kn_mark.specs.declared.turn.MarkTurn.{MarkTurn}
+use Rattle.kn_mark.specs.declared.turn.MarkTurn.TheVariants as marks
+use Rattle.kn_mark.specs.Kept.{Kept, started}
 use Rattle.kn_mutator.specs.declared.task.Task.{Task}
-use Rattle.kn_mutator.specs.declared.task.Task.TheVariants.{Out, GoesIn, Enters, Polls, Calls, Births, Writes, Waits}
+use Rattle.kn_mutator.specs.declared.task.Task.TheVariants.{Out, Helps, GoesIn, Enters, Polls, Calls, Births, Writes, Waits}
 use Rattle.kn_mutator.specs.declared.task.Task.TheVariants.{SendsSingle, Leaves, Ends, Ended}
 use Rattle.kn_mutator.specs.Mutating.{Mutating}
 
@@ -57,7 +63,7 @@ local_kept m r = slice_index m.locals r
 abbrev pub poll_for : Option Call → Step
 poll_for next = does K1 Phase (LoadsFor next)
 
--- the step of a task where it asks nothing of a gate and of the allocator; one that enters asks no gate where it wants an epoch
+-- the step of a task where it asks nothing of a gate, of the allocator and of the marker; one that enters asks no gate where it wants an epoch
 abbrev pub task_step : Mutating → Task → Option Step
 task_step m Out = Some (poll_for None)
 task_step m GoesIn = Some (does K2 (State m.by) (Stores 1))
@@ -104,22 +110,53 @@ task_by m v = task_at (has_left m) (has_single m.alloc.hands) v.header v.positio
 abbrev pub polled_task : Bool → ℕ → Mutating → View → Task
 polled_task passed w m v = cond (is_run (phase_of w).code) (cond passed (task_by m v) Polls) Leaves
 
--- the task behind a step that found the word w, where the mutator is m and its view v behind it; a caller that is out goes in
--- where it found a run phase, and one that enters goes out where it found no run phase
+-- the task of one that is out, where the phase is of this code: a run phase lets it go in, and in Mark it helps
+abbrev pub task_out : Code → Task
+task_out codes.Idle = GoesIn
+task_out codes.Weak = GoesIn
+task_out codes.Sweep = GoesIn
+task_out codes.Mark = Helps
+task_out _ = Out
+
+-- the task behind a step that found the word w, where the mutator is m and its view v behind it; one that is out goes as the phase
+-- says, and one that enters goes out where it found no run phase
 abbrev pub task_behind : Task → ℕ → Mutating → View → Task
-task_behind Out w m v = cond (is_run (phase_of w).code) GoesIn Out
+task_behind Out w m v = task_out (phase_of w).code
 task_behind Enters w m v = cond (is_run (phase_of w).code) (task_by m v) Leaves
 task_behind _ w m v = task_by m v
 
--- what a turn comes to, for what the safepoint answered: one that may help only goes on
+-- a marker behind a phase that was loaded: Mark starts it for its epoch
+abbrev pub started_at : Code → ℕ → Kept → Kept
+started_at codes.Mark e k = started k e
+started_at _ e k = k
+
+abbrev pub started_by : PhaseWord → Kept → Kept
+started_by v k = started_at v.code v.epoch k
+
+-- the marker k behind a step that found the word w: one that is out starts it where it loaded Mark, and any other leaves it as it was
+abbrev pub marker_behind : Task → ℕ → Kept → Kept
+marker_behind Out w k = started_by (phase_of w) k
+marker_behind _ w k = k
+
+-- the task behind a turn of its marker: where the marking is over it is out again
+abbrev pub task_helped : MarkTurn → Task
+task_helped marks.Over = Out
+task_helped _ = Helps
+
+-- what a turn comes to, for what the marker answered
+abbrev pub helped : MarkTurn → Turn
+helped (marks.Idle p w) = Idle p w
+helped _ = Moved
+
+-- what a turn comes to, for what the safepoint answered: one that may help goes on
 abbrev pub told : Enter → Turn
 told (enters.Idle p w) = Idle p w
 told _ = Moved
 
--- the task of one that is out, for the stage of its safepoint
-abbrev pub task_out : Stage → Task
-task_out stages.GoesIn = GoesIn
-task_out _ = Out
+-- the task of one that is out and does not help, for the stage of its safepoint
+abbrev pub task_for : Stage → Task
+task_for stages.GoesIn = GoesIn
+task_for _ = Out
 
 abbrev pub idle_at : ℕ → Bool → Turn
 idle_at w true = Idle Phase w

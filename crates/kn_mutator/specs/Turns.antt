@@ -18,11 +18,14 @@ use Rattle.kn_alloc.specs.Agree.{IsSweeping}
 use Rattle.kn_alloc.specs.Keeps.{Keeps, Starts}
 use Rattle.kn_alloc.specs.Homes.{IsNoHand, WentHome}
 use Rattle.kn_alloc.specs.Turns.{Turned as AllocTurned}
+use Rattle.kn_mark.specs.declared.turn.MarkTurn.{MarkTurn}
+use Rattle.kn_mark.specs.Turns.{Turned as MarkTurned}
 use Rattle.kn_mutator.specs.declared.task.Task.{Task}
-use Rattle.kn_mutator.specs.declared.task.Task.TheVariants.{Out, Enters, Polls, Births, SendsSingle, Leaves, Ends, Ended}
+use Rattle.kn_mutator.specs.declared.task.Task.TheVariants.{Out, Helps, Enters, Polls, Births, SendsSingle, Leaves, Ends, Ended}
 use Rattle.kn_mutator.specs.Mutating.{Knows, Mutating}
 use Rattle.kn_mutator.specs.Agree.{Agrees, HasEnded}
-use Rattle.kn_mutator.specs.Tasks.{answer_behind, next_call, poll_for, polled_answer, polled_task, task_behind, task_by, task_home, task_step}
+use Rattle.kn_mutator.specs.Tasks.{answer_behind, helped, marker_behind, next_call, poll_for, polled_answer, polled_task}
+use Rattle.kn_mutator.specs.Tasks.{task_behind, task_by, task_helped, task_home, task_step}
 
 -- a request of a call that has just begun was begun; behind any other step the allocator is as it was
 abbrev pub IsAllocBehind : Ground → Task → Keeps → ℕ → Keeps → Type 0
@@ -56,6 +59,7 @@ module _ {T : Type 0} (stand : T → Stand) (here : T → ℕ → Bool) (did : T
     pub kept : did s step found s'
     pub task : m'.task ≡ task_behind m.task found.word m' (stand s').view
     pub alloc : m'.alloc ≡ m.alloc
+    pub marker : m'.marker ≡ marker_behind m.task found.word m.marker
     pub answer : reply ≡ answer_behind m.task m.target found.word
 
   -- the gate was asked for the call that begins next (`told` is what it said of a thread's call), and the phase was loaded
@@ -68,18 +72,29 @@ module _ {T : Type 0} (stand : T → Stand) (here : T → ℕ → Bool) (did : T
     pub kept : did s (poll_for (next_call m passed)) found s'
     pub task : m'.task ≡ polled_task passed found.word m' (stand s').view
     pub alloc : IsAllocBehind m.heap m'.task m.alloc m'.epoch m'.alloc
+    pub marker : m'.marker ≡ m.marker
     pub answer : reply ≡ polled_answer passed found.word
+
+  -- its marker made its turn
+  pub record MarksWith (m : Mutating) (s s' : T) (m' : Mutating) (reply : Turn) : Type 0 where
+    pub told : MarkTurn
+    pub turned : MarkTurned stand here did m.marker s s' m'.marker told
+    pub alloc : m'.alloc ≡ m.alloc
+    pub task : m'.task ≡ task_helped told
+    pub answer : reply ≡ helped told
 
   -- the allocator made its turn
   pub record GetsCell (m : Mutating) (s s' : T) (m' : Mutating) (reply : Turn) : Type 0 where
     pub told : AllocTurn
     pub turned : AllocTurned stand here did moved m.alloc s s' m'.alloc told
+    pub marker : m'.marker ≡ m.marker
     pub task : m'.task ≡ task_by m' (stand s').view
     pub answer : reply ≡ Moved
 
   -- a page in hand went into its slot, or its frame was given back
   pub record PutsHome (m : Mutating) (s s' : T) (m' : Mutating) (reply : Turn) : Type 0 where
     pub went : WentHome stand here did moved m.alloc s s' m'.alloc homes.Moved
+    pub marker : m'.marker ≡ m.marker
     pub task : m'.task ≡ task_home m.task m'.alloc.stage
     pub answer : reply ≡ Moved
 
@@ -91,6 +106,7 @@ module _ {T : Type 0} (stand : T → Stand) (here : T → ℕ → Bool) (did : T
     pub made : Made (stand s) (here s) (does K2 (State m.by) (Stores state)) found (stand s') (here s')
     pub kept : did s (does K2 (State m.by) (Stores state)) found s'
     pub alloc : m'.alloc ≡ m.alloc
+    pub marker : m'.marker ≡ m.marker
     pub behind : m'.task ≡ task
     pub answer : reply ≡ told
 
@@ -99,9 +115,10 @@ module _ {T : Type 0} (stand : T → Stand) (here : T → ℕ → Bool) (did : T
   EntersFor None told m s s' m' reply = PollsNext told m s s' m' reply
   EntersFor (Some n) told m s s' m' reply = MakesStep m s s' m' reply
 
-  -- the turn of a task: its step; a poll; a turn of the allocator; or pages go home, one after another, and then the state is
-  -- stored
+  -- the turn of a task: its step; a poll; a turn of the marker, or of the allocator; or pages go home, one after another, and then the
+  -- state is stored
   abbrev pub TurnedAt : Task → (ℕ → ℕ → Bool → Type 0) → Mutating → T → T → Mutating → Turn → Type 0
+  TurnedAt Helps told m s s' m' reply = MarksWith m s s' m' reply
   TurnedAt Enters told m s s' m' reply = EntersFor m.target told m s s' m' reply
   TurnedAt Polls told m s s' m' reply = PollsNext told m s s' m' reply
   TurnedAt (Births call) told m s s' m' reply = GetsCell m s s' m' reply

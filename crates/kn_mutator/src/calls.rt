@@ -79,6 +79,7 @@ impl Mutator {
     }
 
     // The header of the object in local s, for a call on one of its fields.
+    #[inline(always)]
     fn reads_header<T: Steps<Page>>(&mut self, steps: &mut T, call: Call, s: u8) -> Turn
         requires agrees { Agrees self.old (T.stand steps.old) (T.here steps.old) }
         requires task { self.old.task ≡ Calls call None }
@@ -91,6 +92,7 @@ impl Mutator {
     }
 
     // The header was read: the call goes on, or it is answered.
+    #[inline(always)]
     fn judges(&mut self, call: Call, word: u64)
         requires { length self.old.log < length self.old.calls }
         ensures { self.new ≡ judged self.old call word }

@@ -22,6 +22,7 @@ use kn_alloc::ThreadAlloc;
 use kn_base::{Caller, Place, Sizes};
 use kn_graph::{Call, Entry, Event, Reply};
 use kn_layout::{Layout, copy_layouts};
+use kn_mark::Marker;
 use kn_page::Page;
 use kn_rule::Kind;
 use kn_safepoint::{Enter, Safepoint, Stage};
@@ -44,6 +45,7 @@ pub struct Mutator {
     pub(crate) locals: [u32; 16],
     pub(crate) task: Task,
     pub(crate) allocator: ThreadAlloc,
+    pub(crate) marker: Marker,
     log: Vec<Entry>,
 }
 
@@ -66,6 +68,7 @@ impl Model for Mutator {
       locals = m.locals;
       task = m.task;
       alloc = m.allocator;
+      marker = m.marker;
       log = m.log.items;
     } };
 
@@ -97,6 +100,7 @@ impl Mutator {
             target: None,
             locals: [0; 16],
             allocator: ThreadAlloc::open(alloc, &script.sizes, Caller(i))?,
+            marker: Marker::open(&script.sizes),
             log,
         })
     }
@@ -104,8 +108,10 @@ impl Mutator {
     /// Makes the next step of the task, or moves a page (`Turned` in `specs/Turns.antt`). It must not have
     /// ended. A poll asks the gate for the call that would begin next, by its number. A `gc` raises the epoch
     /// wanted, and then loads the phase turn by turn until that epoch is done; on its way out and in it keeps
-    /// its target, and asks no gate. `Idle` where it is out and its safepoint is idle (`told`), where the gate
-    /// let no call pass, or where it goes on waiting in a run phase (`waits_on`);
+    /// its target, and asks no gate. Where it is out and loaded Mark, the next turns are those of its marker,
+    /// until it finds no work open; then it loads the phase again. `Idle` where it is out and its safepoint is
+    /// idle (`told`), where its marker is (`helped`), where the gate let no call pass, or where it goes on
+    /// waiting in a run phase (`waits_on`): the cause of each is told by *turned*;
     /// `Done` in the turn that stores that it has ended. Behind a turn that met an unswept frame and left its
     /// allocator at a sweep it makes no more.
     #[inline(always)]
@@ -121,6 +127,7 @@ impl Mutator {
         self.goes_on(steps, gate)
     }
 
+    #[inline(always)]
     fn goes_on<T: Steps<Page>, G: Gate>(&mut self, steps: &mut T, gate: &G) -> Turn
         requires agrees { Agrees self.old (T.stand steps.old) (T.here steps.old) }
         requires going { ¬ HasEnded self.old.task }
@@ -128,6 +135,7 @@ impl Mutator {
     {
         match self.task {
             Task::Out => self.looks(steps),
+            Task::Helps => self.helps(steps),
             Task::GoesIn => self.goes_in(steps),
             Task::Enters => self.enters(steps, gate),
             Task::Polls => self.polls(steps, gate),
@@ -156,7 +164,7 @@ impl Mutator {
         self.log.as_slice()
     }
 
-    /// The log.
+    /// The entries that `log` gives.
     pub fn into_log(self) -> Vec<Entry>
         ensures { result.items ≡ self.log }
     {

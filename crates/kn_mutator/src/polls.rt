@@ -89,6 +89,7 @@ impl Mutator {
     }
 
     // A call begins in the epoch of the last poll.
+    #[inline(always)]
     fn begins(&mut self, call: Call)
         requires ready { IsReady self.old }
         requires in_range { IsInRange self.old.heap call }

@@ -5,6 +5,8 @@ use kn_graph::Call;
 pub enum Task {
     /// It is out, and loads the phase.
     Out,
+    /// It is out and has loaded Mark, and its marker makes the turns, also where the phase has gone on.
+    Helps,
     /// It is out behind a run phase, and stores that it is in.
     GoesIn,
     /// It is entering, and loads the phase for its next call, or for the epoch that it waits for.

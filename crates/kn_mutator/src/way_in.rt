@@ -14,16 +14,20 @@ use kn_safepoint::{Enter, Stage};
 use kn_steps::{Steps, Turn};
 
 impl Mutator {
-    // Out: the phase says whether it goes in.
+    // Out: the phase says whether it goes in, or helps.
     pub(crate) fn looks<T: Steps<Page>>(&mut self, steps: &mut T) -> Turn
         requires agrees { Agrees self.old (T.stand steps.old) (T.here steps.old) }
         requires task { self.old.task ≡ Out }
         ensures { Goes T.stand T.here T.did T.moved asks_none self.old steps.old steps.new self.new result }
     {
         let mut safepoint = self.safepoint(Stage::Out);
-        let enter = safepoint.enter_turn(steps, None);
-        self.goes_to(task_out(safepoint.stage()));
-        told(enter)
+        match safepoint.enter_turn(steps, None) {
+            Enter::Help(epoch) => self.starts_to_help(epoch),
+            enter => {
+                self.goes_to(task_for(safepoint.stage()));
+                told(enter)
+            }
+        }
     }
 
     pub(crate) fn goes_in<T: Steps<Page>>(&mut self, steps: &mut T) -> Turn
@@ -80,9 +84,9 @@ impl Mutator {
     }
 }
 
-// The task of one that is out, where its safepoint is at a stage.
-fn task_out(stage: Stage) -> Task
-    ensures { result ≡ Tasks.task_out stage }
+// The task of one that is out and does not help, where its safepoint is at a stage.
+fn task_for(stage: Stage) -> Task
+    ensures { result ≡ Tasks.task_for stage }
 {
     match stage {
         Stage::GoesIn => Task::GoesIn,

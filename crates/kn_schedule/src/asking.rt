@@ -73,6 +73,7 @@ pub fn asking_of(threads: u8, word: &OrderWord) -> Asking
 }
 
 /// Whether turns are still wanted of an actor that has answered so many calls, in a phase.
+#[inline(always)]
 fn is_wanted(until: Until, answered: u32, code: Code) -> bool
     ensures { IsTrue result ↔ IsWanted until answered code }
 {
@@ -85,6 +86,7 @@ fn is_wanted(until: Until, answered: u32, code: Code) -> bool
 
 impl Asking {
     /// The actor that an ask is for.
+    #[inline(always)]
     fn asked(&self, ask: u32) -> u8
         requires { AreForActors 17 self.now }
         ensures { result ≡ asked self.now ask }
@@ -103,11 +105,46 @@ impl Asking {
         requires same { length answered.now ≡ length ended.now }
         ensures { IsTrue result ↔ TakesTurn (standing_of ended.now answered.now code) self.now ask }
     {
-        let actor = usize::from(self.asked(ask));
+        self.is_turn_of(self.asked(ask), ended, answered, code)
+    }
+
+    /// Whether an ask for this actor takes a turn.
+    #[inline(always)]
+    fn is_turn_of(&self, actor: u8, ended: &[bool], answered: &[u32], code: Code) -> bool
+        requires is_actor { actor < length ended.now }
+        requires same { length answered.now ≡ length ended.now }
+        ensures { IsTrue result ↔ ((slice_index_or ended.now actor false ≡ false)
+            × IsWanted self.now.until (slice_index_or answered.now actor 0) code) }
+    {
+        let actor = usize::from(actor);
         if ended[actor] {
             return false;
         }
         is_wanted(self.until, answered[actor], code)
+    }
+
+    /// Makes the next ask where it takes a turn, and answers its actor. Where it takes none, nothing is
+    /// changed.
+    #[inline(always)]
+    pub fn ask_next(&mut self, ended: &[bool], answered: &[u32], code: Code) -> Option<u8>
+        requires actors { AreForActors (length ended.now) self.old }
+        requires short { length ended.now ≤ 17 }
+        requires same { length answered.now ≡ length ended.now }
+        ensures asks { MatchOption result (self.new ≡ self.old)
+            (λ actor. Asks (standing_of ended.now answered.now code) self.old actor self.new) }
+        ensures actors { AreForActors (length ended.now) self.new }
+        ensures is_actor { IfSome result (λ actor. actor < length ended.now) }
+        ensures runs { IfSome result (λ actor. slice_index_or ended.now actor false ≡ false) }
+    {
+        if self.made >= self.times {
+            return None;
+        }
+        let actor = self.asked(self.made);
+        if !self.is_turn_of(actor, ended, answered, code) {
+            return None;
+        }
+        self.made += 1;
+        Some(actor)
     }
 
     /// The first ask left that takes a turn. After a whole round of asks none can come, as nothing

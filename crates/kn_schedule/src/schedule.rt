@@ -87,7 +87,27 @@ impl Schedule {
     }
 
     /// The actor that the words left ask for. Where they ask for none, no word is left.
+    #[inline(always)]
     fn next_of_words(&mut self, ended: &[bool], answered: &[u32], code: Code) -> Option<u8>
+        requires ended { length ended.now ≡ self.old.threads + 1 }
+        requires answered { length answered.now ≡ self.old.threads + 1 }
+        ensures threads { self.new.threads ≡ self.old.threads }
+        ensures next { self.new.left.next ≡ self.old.left.next }
+        ensures asked { MatchOption result
+            (AreSpent self.old.threads (standing_of ended.now answered.now code) self.old.left self.new.left)
+            (λ actor. IsAsked self.old.threads (standing_of ended.now answered.now code) self.old.left actor self.new.left) }
+        ensures is_actor { IfSome result (λ actor. actor < self.old.threads + 1) }
+        ensures runs { IfSome result (λ actor. slice_index_or ended.now actor false ≡ false) }
+    {
+        if let Some(actor) = self.asking.ask_next(ended, answered, code) {
+            return Some(actor);
+        }
+        self.next_behind(ended, answered, code)
+    }
+
+    /// The same, where the next ask takes no turn.
+    #[inline(never)]
+    fn next_behind(&mut self, ended: &[bool], answered: &[u32], code: Code) -> Option<u8>
         requires ended { length ended.now ≡ self.old.threads + 1 }
         requires answered { length answered.now ≡ self.old.threads + 1 }
         ensures threads { self.new.threads ≡ self.old.threads }

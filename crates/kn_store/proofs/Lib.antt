@@ -1,3 +1,5 @@
+mod Bests
+mod Ranks
 mod Ends
 mod Sights
 mod Goings

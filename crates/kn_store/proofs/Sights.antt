@@ -1,12 +1,15 @@
 -- A view and a finder go on knowing the same where both see one word more.
-use Rattle.std.proofs.Common.{◌≡◌, ◌≢◌, ℕ, zero, suc, ◌+◌, ◌<◌, Bool, List, [], ◌∷◌, ◌++◌, length}
-use Rattle.std.proofs.Common.{Option, Some, None, slice_get}
-use Rattle.std.proofs.Common.{slice_set, refl, sym, ap, ◌∙◌, arith, length-set}
+use Rattle.std.proofs.Common.{◌≡◌, ◌≢◌, ℕ, zero, suc, ◌+◌, ◌<◌, ◌≤◌, inl, inr, Bool, List, [], ◌∷◌, ◌++◌, length}
+use Rattle.std.proofs.Common.{Option, Some, slice_get}
+use Rattle.std.proofs.Common.{slice_set, refl, sym, ap, ◌∙◌, subst, arith, length-set}
+use Rattle.std.specs.List.{AllByRecursion}
 use Rattle.std.proofs.lemmas.Option.{slice_get_past, slice_get_within}
 use Rattle.kn_base.proofs.Updates.{get_set_here, get_set_else, split_at}
+use Rattle.kn_store.specs.declared.best.Best.{Best}
 use Rattle.kn_store.specs.declared.finder.Seen.{Seen}
-use Rattle.kn_store.specs.Search.{IsChoice, Search, count_of, first_of, is_early, saw_again, saw_next}
+use Rattle.kn_store.specs.Search.{IsRank, KeepsBest, Search, count_of, first_of, is_early, saw_again, saw_next}
 use Rattle.kn_store.specs.Agree.{KnowsSame, is_refused, refused_or, word_of}
+use Rattle.kn_store.proofs.Bests.{better_keeps}
 
 one_more : {A : Type 0} (l : List A) (x : A) → slice_get (l ++ x ∷ []) (length l) ≡ Some x
 one_more [] x = refl
@@ -22,21 +25,34 @@ length_more : {A : Type 0} (l : List A) (x : A) → length (l ++ x ∷ []) ≡ l
 length_more [] x = refl
 length_more (y ∷ l) x = let h = length_more l x in omega arith
 
+pub all_more : {A : Type 0} (P : A → Type 0) (l : List A) (x : A) → AllByRecursion P l → P x → AllByRecursion P (l ++ x ∷ [])
+all_more P [] x all p = (p, all)
+all_more P (y ∷ l) x all p = (all.0, all_more P l x all.1 p)
+
 -- the best of some frames is the best of them beside one more
-pub choice_beside : (class : ℕ) (l : List Seen) (x : Seen) (best : Option ℕ) → IsChoice class l (length l) best →
-    IsChoice class (l ++ x ∷ []) (length l) best
-choice_beside class l x None none = λ j t near at. none j t near (sym (others_stay l x j (λ e. let y = e in absurd (omega arith))) ∙ at)
-choice_beside class l x (Some i) h =
-    let b = h.1 in
-    let n = b.near in (
-      h.0,
+pub best_beside : (class : ℕ) (l : List Seen) (x : Seen) (i r : ℕ) → KeepsBest class l (length l) i r → KeepsBest class (l ++ x ∷ []) (length l) i r
+best_beside class l x i r (inr (none, e)) =
+    inr (λ j t near at. none j t near (sym (others_stay l x j (λ e. let y = e in absurd (omega arith))) ∙ at), e)
+best_beside class l x i r (inl (s, b, e)) =
+    let n = b.near in
+    inl (
+      s,
       record {
-        near = b.near;
+        near = n;
         at = others_stay l x i (λ e. let y = e in absurd (omega arith)) ∙ b.at;
         fit = b.fit;
         best = λ j t near at. b.best j t near (sym (others_stay l x j (λ e. let y = e in absurd (omega arith))) ∙ at);
       },
+      e,
     )
+
+-- the best of some frames and of one more, which is seen
+pub best_with : (class : ℕ) (l : List Seen) (x : Seen) (b b' : Best) (k : ℕ) → KeepsBest class l (length l) b.number b.rank → IsRank class x k →
+    (k < b.rank → b' ≡ record { number = length l; rank = k }) → (b.rank ≤ k → b' ≡ b) →
+    KeepsBest class (l ++ x ∷ []) (length (l ++ x ∷ [])) b'.number b'.rank
+best_with class l x b b' k keeps is better same =
+    subst (λ n. KeepsBest class (l ++ x ∷ []) n b'.number b'.rank) (sym (length_more l x))
+    (better_keeps class (l ++ x ∷ []) (length l) x b b' k (one_more l x) (best_beside class l x b.number b.rank keeps) is better same)
 
 module _ (m : Search) (seen : List (Option ℕ)) (refused : List Bool) (same : KnowsSame m seen refused) (w : ℕ) where
   -- the word of frame number i was seen in this view, and what the finder has of the others stays

@@ -67,6 +67,14 @@ abbrev pub IsChoice : ℕ → List Seen → ℕ → Option ℕ → Type 0
 IsChoice class seen n None = IsNoneOpen class seen n
 IsChoice class seen n (Some i) = (s : Seen) × IsBest class seen n i s
 
+-- the rank of a frame for a class: that of its kind, and 4 where it may not be claimed
+abbrev pub IsRank : ℕ → Seen → ℕ → Type 0
+IsRank class s r = (IsOpen class s × (r ≡ rank s)) ⊎ ((¬ IsOpen class s) × (r ≡ 4))
+
+-- number i is the best of the first n frames seen, of rank r, or none of them may be claimed, and r is 4
+abbrev pub KeepsBest : ℕ → List Seen → ℕ → ℕ → ℕ → Type 0
+KeepsBest class seen n i r = ((s : Seen) × IsBest class seen n i s × (r ≡ rank s)) ⊎ (IsNoneOpen class seen n × (r ≡ 4))
+
 -- a search has ended: each frame of the area was seen, and none may be claimed
 abbrev pub IsOver : Search → Type 0
 IsOver m = (length m.seen ≡ count_of m) × IsNoneOpen m.class m.seen (count_of m)

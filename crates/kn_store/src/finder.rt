@@ -9,13 +9,14 @@ ghost use Rattle.kn_base.specs.declared.kinds.FrameKind.TheVariants.{Owned};
 ghost use Rattle.kn_rule.specs.Decoding.{PacksFrame, frame_of};
 ghost use Rattle.kn_rule.specs.Requests.{owned_word};
 ghost use Rattle.kn_store.specs.Agree.{Agrees, KnowsSame, OnlySaw, SawFull, TellsOver, Turned};
-ghost use Rattle.kn_store.specs.Search.{GoesOn, IsBest, IsChoice, IsOpen, IsOver, count_of, first_of, new_search, rank_of, saw_again, saw_next, with_refused};
+ghost use Rattle.kn_store.specs.Search.{GoesOn, IsBest, IsChoice, IsOver, count_of, first_of, new_search, saw_again, saw_next, with_refused};
 ghost use Rattle.kn_store.specs.declared.finder.Seen.{Seen};
 ghost use Rattle.kn_store.specs.declared.look.Look.TheVariants.{Looking, Full};
 
+use crate::best::{Best, NOT_OPEN, best_of, rank_for};
 use crate::look::Look;
 use kn_base::{Caller, FrameKind, FrameNo, FrameWord, Home, Place, Sizes};
-use kn_rule::{Kind, area_of, is_usable};
+use kn_rule::{Kind, area_of};
 use kn_steps::Steps;
 use std::alloc::{AllocError, Global};
 use std::marker::Model;
@@ -38,8 +39,7 @@ pub struct Finder {
     count: u32,
     seen: Vec<Seen>,
     early: Option<u16>,
-    /// The best of the frames seen, the first one of its kind.
-    best: Option<usize>,
+    best: Best,
 }
 
 impl Model for Finder {
@@ -49,7 +49,7 @@ impl Model for Finder {
     ghost use Rattle.kn_base.specs.Sizes.{IsGood, frame_count};
     ghost use Rattle.kn_rule.specs.Decoding.{PacksFrame};
     ghost use Rattle.kn_rule.specs.Requests.{area_count, area_from};
-    ghost use Rattle.kn_store.specs.Search.{IsChoice, Search};
+    ghost use Rattle.kn_store.specs.Search.{KeepsBest, Search};
 
     ghost Value = { Search };
 
@@ -57,7 +57,7 @@ impl Model for Finder {
 
     ghost invariant = { λ a. IsGood a.sizes × (a.from ≡ area_from a.sizes a.class) × (a.count ≡ area_count a.sizes a.class)
         × (length a.seen.items ≤ a.count) × (frame_count a.sizes ≤ vec_capacity a.seen) × IsClassNumber a.class × (a.by ≤ 17)
-        × AllByRecursion (λ s. PacksFrame s.word) a.seen.items × IsChoice a.class a.seen.items (length a.seen.items) a.best };
+        × AllByRecursion (λ s. PacksFrame s.word) a.seen.items × KeepsBest a.class a.seen.items (length a.seen.items) a.best.number a.best.rank };
 }
 
 impl Finder {
@@ -77,7 +77,7 @@ impl Finder {
             count,
             seen: Vec::with_capacity(alloc, sizes.frames() as usize)?,
             early: None,
-            best: None,
+            best: Best::none(),
         })
     }
 
@@ -96,7 +96,7 @@ impl Finder {
         self.count = count;
         self.seen.clear();
         self.early = None;
-        self.best = None;
+        self.best = Best::none();
     }
 
     /// A frame of the area was refused: its page was put home for the request of this search. It is
@@ -156,6 +156,7 @@ impl Finder {
         }
     }
 
+    #[inline(always)]
     fn looks<P: Home, T: Steps<P>>(&mut self, steps: &mut T) -> Look
         requires agrees { Agrees self.old (T.stand steps.old) }
         requires next { length self.old.seen < count_of self.old }
@@ -172,6 +173,7 @@ impl Finder {
     }
 
     // How many frames were looked at.
+    #[inline(always)]
     fn looked(&self) -> usize
         ensures { result ≡ length self.now.seen }
     {
@@ -179,6 +181,7 @@ impl Finder {
     }
 
     // The frame of this number in the area.
+    #[inline(always)]
     fn frame(&self, number: usize) -> u16
         requires { number < count_of self.now }
         ensures { result ≡ first_of self.now + number }
@@ -187,6 +190,7 @@ impl Finder {
     }
 
     // One frame more was seen.
+    #[inline(always)]
     fn sees(&mut self, frame: u16, word: u64)
         requires packs { PacksFrame word }
         requires next { length self.old.seen < count_of self.old }
@@ -198,12 +202,14 @@ impl Finder {
             None => false,
         };
         let number = self.seen.len();
-        if self.seen.push(Seen { word, refused }).is_err() {
+        let seen = Seen { word, refused };
+        if self.seen.push(seen).is_err() {
             unreachable!();
         }
-        self.best = better(self.class, self.seen.as_slice(), self.best, number);
+        self.best.sees(number, rank_for(self.class, seen));
     }
 
+    #[inline(never)]
     fn claims<P: Home, T: Steps<P>>(&mut self, steps: &mut T, number: usize, seen: Seen) -> Look
         requires agrees { Agrees self.old (T.stand steps.old) }
         requires all { length self.old.seen ≡ count_of self.old }
@@ -252,7 +258,7 @@ impl Finder {
         ensures { self.new ≡ record self.old { seen = slice_set self.old.seen number seen } }
     {
         self.seen[number] = seen;
-        self.best = choice(self.class, self.seen.as_slice());
+        self.best = best_of(self.class, self.seen.as_slice());
     }
 
     // The word with which a frame is claimed, for its word before.
@@ -290,6 +296,7 @@ impl Finder {
         }
     }
 
+    #[inline(always)]
     fn goes_on(&self) -> Look
         ensures { GoesOn self.now result }
     {
@@ -300,6 +307,7 @@ impl Finder {
         }
     }
 
+    #[inline(always)]
     fn is_over(&self) -> bool
         ensures { IsTrue result ↔ IsOver self.now }
     {
@@ -307,68 +315,14 @@ impl Finder {
     }
 
     // The best of the frames seen, the first one of its kind.
+    #[inline(always)]
     fn chosen(&self) -> Option<usize>
         ensures { IsChoice self.now.class self.now.seen (length self.now.seen) result }
     {
-        self.best
-    }
-}
-
-// The best of some frames, the first one of its kind.
-fn choice(class: u16, seen: &[Seen]) -> Option<usize>
-    requires { AllByRecursion (λ (s : Seen). PacksFrame s.word) seen.now }
-    ensures { IsChoice class seen.now (length seen.now) result }
-{
-    let mut best: Option<usize> = None;
-    for number in 0..seen.len() {
-        best = better(class, seen, best, number);
-    }
-    best
-}
-
-// The best of the frames up to this one, for the best of those before it.
-#[inline(always)]
-fn better(class: u16, seen: &[Seen], best: Option<usize>, number: usize) -> Option<usize>
-    requires packs { AllByRecursion (λ (s : Seen). PacksFrame s.word) seen.now }
-    requires near { number < length seen.now }
-    requires best { IsChoice class seen.now number best }
-    ensures { IsChoice class seen.now (number + 1) result }
-{
-    let this = seen[number];
-    if !is_open(class, this) {
-        return best;
-    }
-    match best {
-        None => Some(number),
-        Some(other) => {
-            if rank_told(this.word) < rank_told(seen[other].word) {
-                Some(number)
-            } else {
-                Some(other)
-            }
+        if self.best.rank < NOT_OPEN {
+            Some(self.best.number)
+        } else {
+            None
         }
-    }
-}
-
-fn is_open(class: u16, seen: Seen) -> bool
-    ensures { IsTrue result ↔ IsOpen class seen }
-{
-    is_usable(class, seen.word) && !seen.refused
-}
-
-// The rank of a word's kind, 0 for the best.
-fn rank_told(word: u64) -> u8
-    requires { PacksFrame word }
-    ensures { result ≡ rank_of (frame_of word).kind }
-{
-    match FrameWord::unpack(word) {
-        None => 4,
-        Some(frame) => match frame.kind {
-            FrameKind::Ready => 0,
-            FrameKind::Unswept => 1,
-            FrameKind::Empty => 2,
-            FrameKind::Vacant => 3,
-            FrameKind::Used | FrameKind::Owned => 4,
-        },
     }
 }

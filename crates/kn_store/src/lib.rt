@@ -6,6 +6,7 @@
 //! `specs/Agree.antt`).
 #![tactic(auto)]
 
+mod best;
 mod finder;
 mod look;
 

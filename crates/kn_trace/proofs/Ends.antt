@@ -1,7 +1,7 @@
 -- What the last turn of a run leaves.
 use Rattle.std.proofs.Common.{◌≡◌, ℕ, zero, suc, ◌+◌, ◌-◌, ◌*◌, ◌^◌, ◌<◌, ◌≤◌, ◌⊎◌, inl, inr}
 use Rattle.std.proofs.Common.{List, [], ◌∷◌, ◌++◌, length, map, take, drop}
-use Rattle.std.proofs.Common.{Some, get_or, slice_get, sum_by, refl, sym, ap, ◌∙◌, subst, arith, length-append}
+use Rattle.std.proofs.Common.{Some, get_or, slice_get, sum_by, sym, ap, ◌∙◌, subst, arith, length-append}
 use Rattle.std.specs.Option.{option_map}
 use Rattle.std.specs.Prelude.{All}
 use Rattle.std.proofs.lemmas.List.{get_or_past, get_or_append_left, get_or-append_right, take-append-drop}
@@ -26,14 +26,18 @@ use Rattle.kn_trace.specs.Between.{Holds, Stays, calls_of_all, logs_of}
 use Rattle.kn_trace.proofs.Flags.{has_ended, thread_flag}
 use Rattle.kn_trace.proofs.Logs.{answered, answered_all, leads, logged, no_calls, short_log}
 
-two_empty : (i : ℕ) → get_or {A = List Entry} ([] ∷ [] ∷ []) i [] ≡ []
-two_empty zero = refl
-two_empty (suc zero) = refl
-two_empty (suc (suc i)) = refl
+-- a log and an empty one
+abbrev two_logs : List Entry → ℕ → List Entry
+two_logs log i = get_or {A = List Entry} (log ∷ [] ∷ []) i []
+
+two_short : (log : List Entry) (i : ℕ) → length log ≤ 16384 → length (two_logs log i) ≤ 16384
+two_short log zero short = short
+two_short log (suc zero) short = omega arith
+two_short log (suc (suc i)) short = omega arith
 
 module _ (s : Scripted) (good : IsGoodScript s) (start last : Trace) (is_start : IsStart s start) (stays : Stays start last)
     (sound : Sound last.board) (h : Holds last) where
-  ground_is : last.board.heap ≡ ground_of s
+  pub ground_is : last.board.heap ≡ ground_of s
   ground_is = stays.heap ∙ ap (λ (w : World). w.heap) is_start.board
 
   threads_are : last.board.heap.sizes.threads ≡ s.sizes.threads
@@ -57,17 +61,36 @@ module _ (s : Scripted) (good : IsGoodScript s) (start last : Trace) (is_start :
       let n = h.count in
       logged last.board sound c (omega arith) ∙ (h.agree c m is).knows.log
 
-  -- the callers that are no threads say nothing
-  view_quiet : (c : ℕ) → length last.mutators ≤ c → c < s.sizes.threads + 2 → (view_at last.board c).log ≡ []
-  view_quiet c from to = split_at (λ d. d ≤ last.board.heap.sizes.threads + 1 → last.board.heap.sizes.threads ≤ d → (view_at last.board d).log ≡ [])
-      last.board.heap.sizes.threads (λ _ _. h.quiet) c
-      (λ ne most least.
-      let is : c ≡ last.board.heap.sizes.threads + 1 = omega (arith, ne, most, least) in
-      ap (λ d. (view_at last.board d).log) is ∙ ap (λ (v : View). v.log) h.at_rest)
+  -- of the callers that are no threads the collector has its log, and the finalizer says nothing
+  abbrev threads : ℕ
+  threads = last.board.heap.sizes.threads
+
+  abbrev behind : ℕ → List Entry
+  behind c = two_logs last.collector.log (c - length last.mutators)
+
+  collector_says : (view_at last.board threads).log ≡ behind threads
+  collector_says =
+      let n = h.count in
+      let first : 0 ≡ threads - length last.mutators = omega (arith, n) in
+      h.collects.log ∙ ap (two_logs last.collector.log) first
+
+  finalizer_says : (c : ℕ) → c ≡ threads + 1 → (view_at last.board c).log ≡ behind c
+  finalizer_says c is =
+      let n = h.count in
+      let second : 1 ≡ c - length last.mutators = omega (arith, n, is) in
+      ap (λ d. (view_at last.board d).log) is ∙ (ap (λ (v : View). v.log) h.at_rest ∙ ap (two_logs last.collector.log) second)
+
+  view_says : (c : ℕ) → length last.mutators ≤ c → c < s.sizes.threads + 2 → (view_at last.board c).log ≡ behind c
+  view_says c from to = split_at (λ d. d ≤ threads + 1 → threads ≤ d → (view_at last.board d).log ≡ behind d) threads
+      (λ _ _. collector_says) c (λ ne most least. finalizer_says c (omega (arith, ne, most, least)))
       (let e = threads_are in omega (arith, to)) (let n = h.count in omega (arith, from))
 
-  silent : (c : ℕ) → length last.mutators ≤ c → c < s.sizes.threads + 2 → log_of c last.board.history ≡ []
-  silent c from to = let e = threads_are in logged last.board sound c (omega arith) ∙ view_quiet c from to
+  said_behind : (c : ℕ) → length last.mutators ≤ c → c < s.sizes.threads + 2 → log_of c last.board.history ≡ behind c
+  said_behind c from to = let e = threads_are in logged last.board sound c (omega arith) ∙ view_says c from to
+
+  -- the collector makes at most one entry an epoch
+  collector_short : length last.collector.log ≤ 16384
+  collector_short = let few = h.collects.few in let most = h.collects.epochs in omega (arith, few, most)
 
   -- the mutator of a thread, or none
   abbrev Cases : ℕ → Type 0
@@ -114,25 +137,26 @@ module _ (s : Scripted) (good : IsGoodScript s) (start last : Trace) (is_start :
   complete end c = complete_at end c (cases c)
 
   -- the logs fit the history
-  log_at : (c : ℕ) → c < s.sizes.threads + 2 → Cases c → get_or (logs_of last.mutators) c [] ≡ log_of c last.board.history
+  log_at : (c : ℕ) → c < s.sizes.threads + 2 → Cases c → get_or (logs_of last.mutators last.collector) c [] ≡ log_of c last.board.history
   log_at c to (inl there) =
       let m = there.0 in
       let log = λ (n : Mutating). n.log in
       let near = slice_get_within last.mutators c m there.1 in
       let same : length (map log last.mutators) ≡ length last.mutators = length-map last.mutators log in
-      get_or_append_left (map log last.mutators) ([] ∷ [] ∷ []) [] c (omega arith)
+      get_or_append_left (map log last.mutators) (last.collector.log ∷ [] ∷ []) [] c (omega arith)
       ∙ (get_or_from_slice_get (map log last.mutators) c m.log [] (slice_get-map log last.mutators c ∙ ap (option_map log) there.1)
       ∙ sym (log_is c m there.1))
   log_at c to (inr past) =
       let log = λ (n : Mutating). n.log in
-      get_or-append_right (map log last.mutators) ([] ∷ [] ∷ []) (length last.mutators) c [] (length-map last.mutators log) past
-      ∙ (two_empty (c - length last.mutators) ∙ sym (silent c past to))
+      get_or-append_right (map log last.mutators) (last.collector.log ∷ [] ∷ []) (length last.mutators) c [] (length-map last.mutators log) past
+      ∙ sym (said_behind c past to)
 
-  pub fit : LogsFit (s.sizes.threads + 2) (logs_of last.mutators) last.board.history
+  pub fit : LogsFit (s.sizes.threads + 2) (logs_of last.mutators last.collector) last.board.history
   fit =
       let log = λ (n : Mutating). n.log in
       record {
-        count = length-append (map log last.mutators) ([] ∷ [] ∷ []) ∙ ap (λ n. n + 2) (length-map last.mutators log ∙ (h.count ∙ threads_are));
+        count = length-append (map log last.mutators) (last.collector.log ∷ [] ∷ [])
+            ∙ ap (λ n. n + 2) (length-map last.mutators log ∙ (h.count ∙ threads_are));
         each = λ c near. log_at c near (cases c);
       }
 
@@ -141,18 +165,20 @@ module _ (s : Scripted) (good : IsGoodScript s) (start last : Trace) (is_start :
   short_at c to (inl there) =
       let m = there.0 in
       subst (λ (x : List Entry). length x ≤ 16384) (sym (log_is c m there.1)) (short_log last.board c m (h.agree c m there.1))
-  short_at c to (inr past) = omega (arith, ap (λ (x : List Entry). length x) (silent c past to))
+  short_at c to (inr past) =
+      subst (λ (x : List Entry). length x ≤ 16384) (sym (said_behind c past to))
+      (two_short last.collector.log (c - length last.mutators) collector_short)
 
-  pub few : sum_by (λ (log : List Entry). length log) (logs_of last.mutators) < 2 ^ 32
+  pub few : sum_by (λ (log : List Entry). length log) (logs_of last.mutators last.collector) < 2 ^ 32
   few =
-      let each : All (λ (log : List Entry). length log ≤ 16384) (logs_of last.mutators) =
-      All-from_get_or (λ (log : List Entry). length log ≤ 16384) (logs_of last.mutators) []
+      let each : All (λ (log : List Entry). length log ≤ 16384) (logs_of last.mutators last.collector) =
+      All-from_get_or (λ (log : List Entry). length log ≤ 16384) (logs_of last.mutators last.collector) []
       (λ c near.
       let to : c < s.sizes.threads + 2 = (let n = fit.count in omega arith) in
       subst (λ (x : List Entry). length x ≤ 16384) (sym (fit.each c to)) (short_at c to (cases c))) in
       let threads = good.sizes.of_threads.threads.1 in
-      small (length (logs_of last.mutators)) _ (let n = fit.count in omega arith)
-      (sum_by-le (λ (log : List Entry). length log) 16384 (logs_of last.mutators) each)
+      small (length (logs_of last.mutators last.collector)) _ (let n = fit.count in omega arith)
+      (sum_by-le (λ (log : List Entry). length log) 16384 (logs_of last.mutators last.collector) each)
     where
       small : (a n : ℕ) → a ≤ 18 → n ≤ a * 16384 → n < 2 ^ 32
       small a n x y = omega arith

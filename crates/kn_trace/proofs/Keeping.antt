@@ -8,7 +8,6 @@ use Rattle.std.proofs.lemmas.Option.{slice_get_within, slice_get-map, get_or_fro
 use Rattle.kn_base.proofs.Updates.{get_set_here, get_set_else, split_at}
 use Rattle.kn_graph.specs.Ground.{Ground}
 use Rattle.kn_rule.specs.Rule.{fresh}
-use Rattle.kn_rule.specs.Views.{View}
 use Rattle.kn_rule.specs.Steps.{callers}
 use Rattle.kn_steps.specs.Made.{LieAs, Stand}
 use Rattle.kn_board.specs.World.{World, Sound, lies_at, stand_at, view_at}
@@ -26,6 +25,7 @@ module _ (moves : StaysAsPagesMove) where
   as_pages_move : (m : Mutating) (a : Stand) (here here' : ℕ → Bool) → LieAs a.view here here' → Agrees m a here → Agrees m a here'
   as_pages_move m a here here' lie h = record {
     alloc = moves m.alloc a here here' h.alloc lie;
+    marker = h.marker;
     heap = h.heap;
     caller = h.caller;
     knows = h.knows;
@@ -109,8 +109,6 @@ module _ (others : OthersStay) (heaps : HeapStays) (swept : NoneComesUnswept) (m
           ∙ (length-set t.mutators thread after ∙ (h.count ∙ sym threads_same));
       agree = λ c m is. agree_set c m (ap (λ (ms : List Mutating). slice_get ms c) (sym mutators) ∙ is);
       collects = collects;
-      quiet = ap (λ n. (view_at t'.board n).log) threads_same
-          ∙ (ap (λ (v : View). v.log) (view_stays t t' sound h thread least turn t.board.heap.sizes.threads (omega arith) other) ∙ h.quiet);
       swept = swept t.board t'.board thread sound (is_caller thread near) h.swept turn;
       at_rest = rests t t' sound h thread least turn;
     }
@@ -128,8 +126,8 @@ module _ (others : OthersStay) (heaps : HeapStays) (swept : NoneComesUnswept) (m
 
   -- the same of a turn of the collector
   module _ (t t' : Trace) (sound : Sound t.board) (h : Holds t) (mutators : t'.mutators ≡ t.mutators)
-      (turn : Turn t.board.heap.sizes.threads t.board t'.board) (agrees : Collects t'.collector (stand_at t.board.heap.sizes.threads t'.board))
-      (quiet : (view_at t'.board t.board.heap.sizes.threads).log ≡ (view_at t.board t.board.heap.sizes.threads).log) where
+      (turn : Turn t.board.heap.sizes.threads t.board t'.board)
+      (agrees : Collects t'.collector (stand_at t.board.heap.sizes.threads t'.board)) where
     abbrev by : ℕ
     by = t.board.heap.sizes.threads
 
@@ -148,7 +146,6 @@ module _ (others : OthersStay) (heaps : HeapStays) (swept : NoneComesUnswept) (m
       count = ap (λ (ms : List Mutating). length ms) mutators ∙ (h.count ∙ sym same_threads);
       agree = its_agrees;
       collects = subst (λ n. Collects t'.collector (stand_at n t'.board)) (sym same_threads) agrees;
-      quiet = ap (λ n. (view_at t'.board n).log) same_threads ∙ (quiet ∙ h.quiet);
       swept = swept t.board t'.board by sound (omega arith) h.swept turn;
       at_rest = rests t t' sound h by (omega arith) turn;
     }

@@ -19,7 +19,7 @@ use Rattle.kn_rule.specs.Views.{View}
 use Rattle.kn_rule.specs.Steps.{callers}
 use Rattle.kn_board.specs.World.{World, Sound, view_at}
 use Rattle.kn_mutator.specs.declared.task.Task.{Task}
-use Rattle.kn_mutator.specs.declared.task.Task.TheVariants.{Out, GoesIn, Enters, Polls, Calls, Births, Writes, Waits}
+use Rattle.kn_mutator.specs.declared.task.Task.TheVariants.{Out, Helps, GoesIn, Enters, Polls, Calls, Births, Writes, Waits}
 use Rattle.kn_mutator.specs.declared.task.Task.TheVariants.{SendsSingle, Leaves, Ends, Ended}
 use Rattle.kn_mutator.specs.Agree.{HasAnswered, AtTask, HasEnded, Owes}
 use Rattle.kn_mutator.specs.Mutating.{Mutating}
@@ -33,6 +33,7 @@ owed m (Some n) h = (h.number, h.answers)
 -- at every task the log answers some of the calls
 pub answered : (task : Task) (m : Mutating) (v : View) → AtTask task m v → (n : ℕ) × HasAnswered m.log m.calls n
 answered Out m v at = owed m m.target at.owes
+answered Helps m v at = owed m m.target at.0.owes
 answered GoesIn m v at = owed m m.target at.owes
 answered Enters m v at = owed m m.target at.owes
 answered Polls m v at = (m.begun, at.0.answers)

@@ -80,7 +80,7 @@ module _ (s : Scripted) where
       let count = new.count in
       same_Some m (new_mutating (ground_of s) i (calls_at s.threads i)) (sym is ∙ new.each i (omega arith))
 
-  pub first_flags : (n : ℕ) (ms : List Mutating) → AreNew s n ms → replicate (n + 1) false ≡ ends ms (new_kept s.sizes.threads)
+  pub first_flags : (n : ℕ) (ms : List Mutating) → AreNew s n ms → replicate (n + 1) false ≡ ends ms (new_kept (ground_of s))
   first_flags n ms new =
       ap (λ k. replicate (k + 1) false) (sym new.count)
       ∙ sym (all_same (λ m. is_end m.task) false ms

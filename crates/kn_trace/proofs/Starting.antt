@@ -7,7 +7,6 @@ use Rattle.kn_base.specs.Pages.{FrameView}
 use Rattle.kn_layout.specs.declared.layouts.Layout.{Layout}
 use Rattle.kn_graph.specs.Ground.{Ground}
 use Rattle.kn_rule.specs.Rule.{fresh}
-use Rattle.kn_rule.specs.Views.{View}
 use Rattle.kn_schedule.specs.Schedules.{whole_order}
 use Rattle.kn_steps.specs.Made.{Stand}
 use Rattle.kn_view.specs.Parts as parts
@@ -30,7 +29,7 @@ over_script {s} {now} layouts e is = ap (parts.ground_of s.sizes) e ∙ ap groun
 
 module _ (s : Scripted) (good : IsGoodScript s) (pages : List FrameView) (w : World) (board : w ≡ opened (ground_of s) pages) (r : Running)
     (new : AreNew s (length s.threads) r.mutators) where
-  pub starts : AreWhole s.sizes pages → r.collector ≡ new_kept s.sizes.threads → r.left ≡ whole_order s.order → IsStart s (trace_of w r)
+  pub starts : AreWhole s.sizes pages → r.collector ≡ new_kept (ground_of s) → r.left ≡ whole_order s.order → IsStart s (trace_of w r)
   starts whole collector left = record {
     pages = pages;
     whole = whole;
@@ -79,7 +78,6 @@ module _ (s : Scripted) (good : IsGoodScript s) (pages : List FrameView) (w : Wo
       count = new.count ∙ (good.each_thread ∙ sym threads_are);
       agree = agrees;
       collects = collects;
-      quiet = ap (λ (v : View). v.log) (view_is w.heap.sizes.threads);
       swept = subst NoneUnswept (sym board) (opening (ground_of s) pages).0;
       at_rest = view_is (w.heap.sizes.threads + 1) ∙ ap fresh (sym heap_is);
     }

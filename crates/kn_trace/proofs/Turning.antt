@@ -68,9 +68,8 @@ module _ (w w' : World) (thread : ℕ) (m m' : Mutating) (s s' : Seat) (reply : 
 module _ (w w' : World) (by : ℕ) (k k' : Kept) (s s' : Seat) (reply : Turn) (is_by : s.by ≡ by) (board : s.board ≡ w)
     (into : w' ≡ s'.board) where
   pub made_collection : Sound w → Collected seat_stand seat_here SeatDid k s s' k' reply →
-      OneTurn seat_stand seat_here SeatDid SeatMoved s s' → Collects k' (seat_stand s') →
-      (seat_stand s').view.log ≡ (seat_stand s).view.log → MakesCollection w by k w' k'
-  made_collection sound turned one agrees quiet =
+      OneTurn seat_stand seat_here SeatDid SeatMoved s s' → Collects k' (seat_stand s') → MakesCollection w by k w' k'
+  made_collection sound turned one agrees =
       let e = seat_is w by s is_by board in
       let f = seat_is w' by s' (by_stays s s' one ∙ is_by) (sym into) in
       record {
@@ -81,7 +80,6 @@ module _ (w w' : World) (by : ℕ) (k k' : Kept) (s s' : Seat) (reply : Turn) (i
         one = subst (λ (a : Seat). OneTurn seat_stand seat_here SeatDid SeatMoved a (seat by w')) e
             (subst (λ (b : Seat). OneTurn seat_stand seat_here SeatDid SeatMoved s b) f one);
         agrees = subst (λ (b : Seat). Collects k' (seat_stand b)) f agrees;
-        quiet = ap (λ (b : Seat). (seat_stand b).view.log) (sym f) ∙ (quiet ∙ ap (λ (a : Seat). (seat_stand a).view.log) e);
       }
 
 -- what holds does not rest on what is left of the order
@@ -89,7 +87,7 @@ pub holds_so : (w : World) (ms : List Mutating) (k : Kept) (left left' : Left) �
     Holds (trace_of w (record { mutators = ms; collector = k; left = left })) →
     Holds (trace_of w (record { mutators = ms; collector = k; left = left' }))
 holds_so w ms k left left' h =
-    record { count = h.count; agree = h.agree; collects = h.collects; quiet = h.quiet; swept = h.swept; at_rest = h.at_rest }
+    record { count = h.count; agree = h.agree; collects = h.collects; swept = h.swept; at_rest = h.at_rest }
 
 -- what is read at an index
 pub read_at : (ms : List Mutating) (i thread : ℕ) (m : Mutating) → i ≡ thread → thread < length ms → m ≡ get_or ms i m →
@@ -184,16 +182,13 @@ module _ (others : OthersStay) (heaps : HeapStays) (swept : NoneComesUnswept) (m
     agrees_behind : Collects k' (stand_at w.heap.sizes.threads w')
     agrees_behind = subst (λ n. Collects k' (stand_at n w')) by_is made.agrees
 
-    quiet_behind : (view_at w' w.heap.sizes.threads).log ≡ (view_at w w.heap.sizes.threads).log
-    quiet_behind = subst (λ n. (view_at w' n).log ≡ (view_at w n).log) by_is made.quiet
-
     pub holds_behind : Holds (trace_of w' collects_on)
     holds_behind =
-        collected others heaps swept moves (trace_of w r) (trace_of w' collects_on) made.sound holds refl turn_of agrees_behind quiet_behind
+        collected others heaps swept moves (trace_of w r) (trace_of w' collects_on) made.sound holds refl turn_of agrees_behind
 
     pub stays_behind : Stays (trace_of w r) (trace_of w' collects_on)
     stays_behind =
-        collected_stays others heaps swept moves (trace_of w r) (trace_of w' collects_on) made.sound holds refl turn_of agrees_behind quiet_behind
+        collected_stays others heaps swept moves (trace_of w r) (trace_of w' collects_on) made.sound holds refl turn_of agrees_behind
 
     pub turn_behind : IsCollectorTurn by (trace_of w r) (trace_of w' collects_on)
     turn_behind = record { behind = behind; reply = made.reply; turned = made.turned; mutators = refl }

@@ -28,13 +28,12 @@ AgreesAt w thread m = Agrees m (stand_at thread w) (lies_at w)
 abbrev pub CollectsAt : World → Kept → Type 0
 CollectsAt w k = Collects k (stand_at w.heap.sizes.threads w)
 
--- each thread has a mutator, which agrees with what it knows, and so does the collector, which has made no entry; no frame is
--- unswept; and the finalizer's caller has made no step
+-- each thread has a mutator, which agrees with what it knows, and so does the collector; no frame is unswept; and the finalizer's
+-- caller has made no step
 pub record Holds (t : Trace) : Type 0 where
   pub count : length t.mutators ≡ t.board.heap.sizes.threads
   pub agree : (thread : ℕ) (m : Mutating) → slice_get t.mutators thread ≡ Some m → AgreesAt t.board thread m
   pub collects : CollectsAt t.board t.collector
-  pub quiet : (view_at t.board t.board.heap.sizes.threads).log ≡ []
   pub swept : NoneUnswept t.board
   pub at_rest : view_at t.board (t.board.heap.sizes.threads + 1) ≡ fresh t.board.heap
 
@@ -46,9 +45,9 @@ pub record Stays (t t' : Trace) : Type 0 where
   pub heap : t'.board.heap ≡ t.board.heap
   pub calls : calls_of_all t'.mutators ≡ calls_of_all t.mutators
 
--- the logs of the mutators, in order, and two empty ones: those of the collector and of the finalizer
-abbrev pub logs_of : List Mutating → List (List Entry)
-logs_of ms = map (λ m. m.log) ms ++ [] ∷ [] ∷ []
+-- the logs of the mutators, in order, that of the collector, and an empty one: that of the finalizer
+abbrev pub logs_of : List Mutating → Kept → List (List Entry)
+logs_of ms k = map (λ m. m.log) ms ++ k.log ∷ [] ∷ []
 
 -- the actors of a run: the mutators and the collector, and what is left of the order of their turns
 pub record Running : Type 0 where
@@ -77,14 +76,13 @@ pub record MakesTurn (w : World) (thread : ℕ) (m : Mutating) (w' : World) (m' 
   pub agrees : (¬ IsSweeping m'.alloc.stage) → AgreesAt w' thread m'
   pub unswept : IsSweeping m'.alloc.stage → MetUnswept seat_stand seat_here SeatDid SeatMoved (seat thread w) (seat thread w')
 
--- the collector made one turn on the board, as caller c, and no entry
+-- the collector made one turn on the board, as caller c
 pub record MakesCollection (w : World) (c : ℕ) (k : Kept) (w' : World) (k' : Kept) : Type 0 where
   pub sound : Sound w
   pub reply : Turn
   pub turned : Collected seat_stand seat_here SeatDid k (seat c w) (seat c w') k' reply
   pub one : TurnOf c w w'
   pub agrees : Collects k' (stand_at c w')
-  pub quiet : (view_at w' c).log ≡ (view_at w c).log
 
 -- all actors have ended, and nothing was done; or one turn was made
 abbrev pub Takes : Bool → Trace → Trace → Type 0

@@ -31,7 +31,7 @@ pub record IsStart (script : Scripted) (t : Trace) : Type 0 where
   pub count : length t.mutators ≡ length script.threads
   pub mutators : (thread : ℕ) → thread < length script.threads →
       slice_get t.mutators thread ≡ Some (new_mutating (ground_of script) thread (calls_at script.threads thread))
-  pub collector : t.collector ≡ new_kept script.sizes.threads
+  pub collector : t.collector ≡ new_kept (ground_of script)
   pub left : t.left ≡ whole_order script.order
 
 -- so many turns of a run of the script lead here, no more than the greatest number of turns

@@ -132,7 +132,7 @@ impl Actors {
         requires good { IsGoodScript script.now }
         requires built { AreBuilt script.now.threads }
         ensures new { IfOk result (λ actors. AreNew script.now (length script.now.threads) actors.mutators) }
-        ensures collector { IfOk result (λ actors. actors.collector ≡ new_kept script.now.sizes.threads) }
+        ensures collector { IfOk result (λ actors. actors.collector ≡ new_kept (ground_of script.now)) }
         ensures collects { IfOk result (λ actors. Collects actors.collector
             (record { heap = ground_of script.now; by = script.now.sizes.threads; view = fresh (ground_of script.now) })) }
         ensures left { IfOk result (λ actors. actors.left ≡ whole_order script.now.order) }
@@ -142,13 +142,14 @@ impl Actors {
         let actors = usize::from(threads) + 1;
         let words = Vec::from_slice(alloc, &script.order)?;
         let mutators = open_mutators(alloc, script)?;
+        let collector = Collector::open(alloc, script)?;
         let mut ended = Vec::new(alloc);
         ended.resize(actors, false)?;
         let mut answered = Vec::new(alloc);
         answered.resize(actors, 0)?;
         Ok(Actors {
             mutators,
-            collector: Collector::open(&script.sizes),
+            collector,
             ended,
             answered,
             schedule: Schedule::open(words, threads),
@@ -253,17 +254,17 @@ impl Actors {
         false
     }
 
-    /// The logs of the threads, and an empty one for each of the two other callers, which have made no
+    /// The logs of the threads, that of the collector, and an empty one for the finalizer, which has made no
     /// entry. An error is want of memory.
     pub fn into_logs(self, alloc: Global) -> Result<Vec<Log>, AllocError>
-        ensures { IfOk result (λ logs. logs.items ≡ logs_of self.mutators) }
+        ensures { IfOk result (λ logs. logs.items ≡ logs_of self.mutators self.collector) }
     {
         let mut logs: Vec<Log> = self
             .mutators
             .into_iter()
             .map(|mutator| log_of(mutator))
             .collect(alloc)?;
-        logs.push(Log::new(alloc))?;
+        logs.push(Log::from_vec(self.collector.into_log()))?;
         logs.push(Log::new(alloc))?;
         Ok(logs)
     }

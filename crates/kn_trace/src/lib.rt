@@ -3,9 +3,8 @@
 //! A `trace` owns its board, the mutators of all threads and the collector (`Trace` in
 //! `specs/Traces.antt`), and only the turn of the actor whose turn it is changes them. Between any two
 //! turns each mutator and the collector agree with what their callers know on the board, no frame is
-//! unswept, the collector has made no entry, and the finalizer has made no step (`Holds` in
-//! `specs/Between.antt`). A run ends where every actor has ended, or where the greatest number of turns
-//! was made (`IsRunOf` in `specs/Runs.antt`).
+//! unswept, and the finalizer has made no step (`Holds` in `specs/Between.antt`). A run ends where every
+//! actor has ended, or where the greatest number of turns was made (`IsRunOf` in `specs/Runs.antt`).
 #![tactic(auto)]
 
 mod actors;

@@ -15,8 +15,8 @@ use kn_report::Log;
 use kn_script::{Script, state_laws};
 use std::alloc::{AllocError, Global};
 
-/// What a run leaves: the board, the log of each caller, of which the last two are empty, and
-/// whether its turns were spent with some actor not ended.
+/// What a run leaves: the board, the log of each caller, of which the last one is empty, and whether
+/// its turns were spent with some actor not ended.
 #[derive(Drop)]
 pub struct Traced {
     pub board: Board<Page>,
@@ -50,6 +50,7 @@ fn open_run(alloc: Global, script: &Script) -> Result<Opened, AllocError>
 pub fn trace(alloc: Global, script: &Script) -> Result<Traced, AllocError>
     requires good { IsGoodScript script.now }
     requires built { AreBuilt script.now.threads }
+    ensures heap { IfOk result (λ traced. traced.board.heap ≡ ground_of script.now) }
     ensures run { IfOk result (λ traced. IsRunOf script.now traced.is_spent traced.board) }
     ensures legal { IfOk result (λ traced. IsLegal (ground_of script.now) traced.board.history) }
     ensures logs { IfOk result (λ traced. LogsFit (script.now.sizes.threads + 2) traced.logs.items traced.board.history) }

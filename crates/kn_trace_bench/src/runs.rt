@@ -61,7 +61,7 @@ fn per_turn(runs: &[u128], opens: &[u128], at: usize, turns: u32) -> u64 {
 }
 
 /// A time in nanoseconds, up to 1,000 seconds.
-fn time_at(times: &[u128], at: usize) -> u64
+pub fn time_at(times: &[u128], at: usize) -> u64
     ensures { result < 1000000000000 }
 {
     match times.get(at) {
@@ -69,6 +69,7 @@ fn time_at(times: &[u128], at: usize) -> u64
         None => 0,
     }
 }
+
 /// Runs a script with so many turns, and tells how long that took, and whether they were spent.
 fn run_script(
     rt: &(impl AllocGlobal + Clock + Print),

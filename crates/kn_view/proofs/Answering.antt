@@ -15,19 +15,20 @@ use Rattle.kn_rule.specs.Searches.{is_over}
 use Rattle.kn_rule.specs.Views.{View, Open}
 use Rattle.kn_rule.specs.Steps.{Found, epoch_in, saying}
 use Rattle.kn_rule.specs.Outcomes.{full_if}
-use Rattle.kn_view.specs.Parts.{Makes, Part, said_list, view_with}
+use Rattle.kn_view.specs.Parts.{Part, view_with}
+use Rattle.kn_view.specs.Told.{Says, told}
 
 -- where a caller stands, by what is stored
 pub stands_at : (stored now : Part) (at : Position) → stored ≡ now → stored.position ≡ at → now.position ≡ at
 stands_at stored now at e h = sym (ap (λ (q : Part). q.position) e) ∙ h
 
 -- what is said of a call that is answered where the caller's view has this part
-pub answered : (z : Ground) (mid new : Part) (said : Option Entry) (by : ℕ) (call : Call) (reply : Reply) (address : ℕ) (part : Part) →
-    mid ≡ part → Makes z mid new said (λ v. saying by (epoch_in v) call reply address v) → (owned : List (Option Open)) (log : List Entry) →
-    record { view = view_with z new owned log; says = said_list said }
-    ≡ saying by (epoch_in (view_with z part owned log)) call reply address (view_with z part owned log)
-answered z mid new said by call reply address part m h owned log =
-    h owned log ∙ ap (λ q. saying by (epoch_in (view_with z q owned log)) call reply address (view_with z q owned log)) m
+pub answered : (z : Ground) (mid new : Part) (before after : List Entry) (by : ℕ) (call : Call) (reply : Reply) (address : ℕ) (part : Part) →
+    mid ≡ part → Says z mid new before after (λ v. saying by (epoch_in v) call reply address v) → (owned : List (Option Open)) (log : List Entry) →
+    record { view = view_with z new owned log; history = after }
+    ≡ told before (saying by (epoch_in (view_with z part owned log)) call reply address (view_with z part owned log))
+answered z mid new before after by call reply address part m h owned log =
+    h owned log ∙ ap (λ q. told before (saying by (epoch_in (view_with z q owned log)) call reply address (view_with z q owned log))) m
 
 -- an end of a search reads only the last poll of the view before it
 full_alike : (z : Ground) (c : ℕ) (v w : View) (p : Place) (a : Action) (f : Found) (over : Bool) (call : Call) (u : View) →
@@ -36,14 +37,15 @@ full_alike z c v w p a f true call u e = ap (λ word. saying c (pauses (phase_of
 full_alike z c v w p a f false call u e = refl
 
 -- a search ends where the caller's view has this part, behind a view with the same last poll
-pub searched : (z : Ground) (mid new : Part) (said : Option Entry) (by : ℕ) (call : Call) (p : Place) (a : Action) (f : Found)
+pub searched : (z : Ground) (mid new : Part) (before after : List Entry) (by : ℕ) (call : Call) (p : Place) (a : Action) (f : Found)
     (part : Part) (v : View) →
     mid ≡ part → part.polled ≡ v.polled →
-    Makes z mid new said (λ u. full_if z by u p a f (is_over z call mid.seen mid.refused) call u) → (owned : List (Option Open)) (log : List Entry) →
-    record { view = view_with z new owned log; says = said_list said }
-    ≡ full_if z by v p a f (is_over z call part.seen part.refused) call (view_with z part owned log)
-searched z mid new said by call p a f part v m same h owned log =
+    Says z mid new before after (λ u. full_if z by u p a f (is_over z call mid.seen mid.refused) call u) →
+    (owned : List (Option Open)) (log : List Entry) →
+    record { view = view_with z new owned log; history = after }
+    ≡ told before (full_if z by v p a f (is_over z call part.seen part.refused) call (view_with z part owned log))
+searched z mid new before after by call p a f part v m same h owned log =
     let u = view_with z part owned log in
     h owned log
-    ∙ (ap (λ (q : Part). full_if z by (view_with z q owned log) p a f (is_over z call q.seen q.refused) call (view_with z q owned log)) m
-    ∙ full_alike z by u v p a f (is_over z call part.seen part.refused) call u same)
+    ∙ (ap (λ (q : Part). told before (full_if z by (view_with z q owned log) p a f (is_over z call q.seen q.refused) call (view_with z q owned log))) m
+    ∙ ap (told before) (full_alike z by u v p a f (is_over z call part.seen part.refused) call u same))

@@ -1,4 +1,5 @@
 pub mod Words
 pub mod Parts
+pub mod Told
 pub mod Looks
 pub mod Shares

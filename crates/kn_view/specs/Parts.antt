@@ -1,6 +1,5 @@
--- What is stored of one caller's view, and what a step makes of it.
-use Rattle.std.specs.Prelude.{◌≡◌, ℕ, ◌+◌, ◌<◌, ◌^◌, Bool, false, true, List, [], ◌∷◌, replicate, Option, Some, None}
-use Rattle.std.specs.Prelude.{slice_get, slice_set}
+-- What is stored of one caller's view.
+use Rattle.std.specs.Prelude.{ℕ, ◌+◌, ◌<◌, ◌^◌, Bool, false, true, List, replicate, Option, Some, None}
 use Rattle.kn_base.specs.declared.numbers.Span.{Span}
 use Rattle.kn_base.specs.declared.heap.Sizes.{Sizes}
 use Rattle.kn_layout.specs.declared.layouts.Layout.{Layout}
@@ -17,8 +16,7 @@ use Rattle.kn_rule.specs.declared.positions.Position.{Position}
 use Rattle.kn_rule.specs.declared.positions.Position.TheVariants.{Out, Calling}
 use Rattle.kn_rule.specs.declared.parts.Taken.{Taken}
 use Rattle.kn_rule.specs.Requests.{class_asked, words_asked}
-use Rattle.kn_rule.specs.Views.{View, Open, Sweep, flattened}
-use Rattle.kn_rule.specs.Steps.{Outcome}
+use Rattle.kn_rule.specs.Views.{View, Open, Sweep}
 use Rattle.kn_rule.specs.Rule.{fresh}
 
 -- the sizes and the layouts of a heap, as one
@@ -71,20 +69,6 @@ view_with z part owned log = record (fresh z) {
   calls = part.calls;
   births = part.births;
 }
-
-abbrev pub said_list : Option Entry → List Entry
-said_list None = []
-said_list (Some entry) = entry ∷ []
-
--- a step made one part of another and said this, as an outcome of the view says, whatever its caller owns and its log are
-abbrev pub Makes : Ground → Part → Part → Option Entry → (View → Outcome) → Type 0
-Makes z old new said outcome = (owned : List (Option Open)) (log : List Entry) →
-    record { view = view_with z new owned log; says = said_list said } ≡ outcome (view_with z old owned log)
-
--- the same of a step that also changes what its caller owns of frame p, from one to another
-abbrev pub MakesOwning : Ground → Part → Part → Option Entry → ℕ → Option Open → Option Open → (View → Outcome) → Type 0
-MakesOwning z old new said p before after outcome = (owned : List (Option Open)) (log : List Entry) → flattened (slice_get owned p) ≡ before →
-    record { view = view_with z new (slice_set owned p after) log; says = said_list said } ≡ outcome (view_with z old owned log)
 
 -- the part of a caller that has made no step
 abbrev pub new_part : Ground → Part

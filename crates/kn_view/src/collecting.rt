@@ -6,11 +6,12 @@ ghost use Rattle.kn_graph.specs.Ground.{Ground};
 ghost use Rattle.kn_rule.specs.declared.steps.Action.{Action};
 ghost use Rattle.kn_rule.specs.declared.steps.Action.TheVariants.{Loads, Stores};
 ghost use Rattle.kn_rule.specs.Decoding.{phase_of};
-ghost use Rattle.kn_rule.specs.Steps.{Found};
+ghost use Rattle.kn_rule.specs.Steps.{Found, more};
 ghost use Rattle.kn_rule.specs.Views.{View};
 ghost use Rattle.kn_rule.specs.Outcomes.{count_at, counted_from, paused_at, phase_stored, state_loaded, wanted_at};
-ghost use Rattle.kn_view.specs.Parts.{Makes, said_list};
+ghost use Rattle.kn_view.specs.Told.{IsShort, Makes, Says};
 
+use crate::history::History;
 use crate::known::Known;
 use crate::shares::joined;
 use crate::words::{pauses_before, stops};
@@ -22,7 +23,7 @@ impl Known {
     /// What a raise of the epoch wanted, or a load of it, makes of it.
     pub fn wants(&mut self, word: u64)
         ensures { (z : Ground) (c : ℕ) (p : _) (a : Action) (f : Found) → f.word ≡ word →
-            Makes z self.old self.new None (λ v. wanted_at z c v p a f self.old.position) }
+            Makes z self.old self.new (λ v. wanted_at z c v p a f self.old.position) }
     {
         match self.position {
             Position::Calling(_) => {
@@ -34,14 +35,15 @@ impl Known {
     }
 
     /// What a store of the phase makes of it.
-    pub fn stores_phase(&mut self, by: u8, word: u64) -> Option<Entry>
-        requires { word < 2 ^ 35 }
+    pub fn stores_phase(&mut self, history: &mut History, by: u8, word: u64)
+        requires word { word < 2 ^ 35 }
+        requires short { IsShort history.old }
         ensures { (z : Ground) (p : _) (f : Found) → z.sizes.threads ≡ length self.old.counted →
-            Makes z self.old self.new result (λ v. phase_stored z by v p (Stores word) f) }
+            Says z self.old self.new history.old history.new (λ v. phase_stored z by v p (Stores word) f) }
     {
         self.keeps_phase(word);
         self.work = joined(self.work, word);
-        pause_in(by, word)
+        tells_pause(history, by, word);
     }
 
     // The phase word is kept, and with a stop the counting of mutators begins anew.
@@ -60,7 +62,7 @@ impl Known {
         requires counted { mutator < length self.old.counted }
         requires ended { mutator < length self.old.ended }
         ensures { (z : Ground) (c : ℕ) (a : Action) (f : Found) → f.word ≡ word →
-            Makes z self.old self.new None (λ v. state_loaded z c v (State mutator) a f) }
+            Makes z self.old self.new (λ v. state_loaded z c v (State mutator) a f) }
     {
         self.counted[usize::from(mutator)] = word != 1;
         self.ended[usize::from(mutator)] = word == 2;
@@ -69,7 +71,7 @@ impl Known {
     /// What the store that begins the marking, or a load of the count of open work, makes of it.
     pub fn counts_work(&mut self, act: Action, word: u64)
         ensures { (z : Ground) (c : ℕ) (p : _) (f : Found) → f.word ≡ word →
-            Makes z self.old self.new None (λ v. count_at z c v p act f act) }
+            Makes z self.old self.new (λ v. count_at z c v p act f act) }
     {
         match act {
             Action::Stores(_) => self.over = false,
@@ -82,21 +84,20 @@ impl Known {
     }
 }
 
-// The pause that a store of this word makes: that of Weak.
-fn pause_in(by: u8, word: u64) -> Option<Entry>
-    requires { word < 2 ^ 35 }
+// A store of this word makes a pause where it is that of Weak.
+fn tells_pause(history: &mut History, by: u8, word: u64)
+    requires word { word < 2 ^ 35 }
+    requires short { IsShort history.old }
     ensures { (z : Ground) (v : View) (p : Place) (a : Action) (f : Found) →
-        said_list result ≡ paused_at z by v p a f (phase_of word).code (phase_of word).epoch }
+        history.new ≡ more history.old (paused_at z by v p a f (phase_of word).code (phase_of word).epoch) }
 {
     let code = word % 8;
     if code == 3 {
         let epoch = (word / 8) as u32;
-        Some(Entry {
+        history.push(Entry {
             by: Caller(by),
             epoch,
             what: Event::Pause(epoch),
-        })
-    } else {
-        None
+        });
     }
 }

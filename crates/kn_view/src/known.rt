@@ -3,8 +3,10 @@ ghost use Rattle.std.specs.Prelude.{◌≡◌, ◌<◌, IfOk, slice_index, slice
 ghost use Rattle.kn_base.specs.Sizes.{IsGood};
 ghost use Rattle.kn_graph.specs.Ground.{Ground};
 ghost use Rattle.kn_rule.specs.Steps.{entry_of, epoch_in, saying};
-ghost use Rattle.kn_view.specs.Parts.{Makes, new_part};
+ghost use Rattle.kn_view.specs.Parts.{new_part};
+ghost use Rattle.kn_view.specs.Told.{IsShort, Says};
 
+use crate::history::History;
 use crate::looks::{Look, SweepPlace};
 use crate::words::pauses_before;
 use kn_base::{Caller, Sizes};
@@ -118,15 +120,17 @@ impl Known {
     // The call is answered, and what was read for it is forgotten.
     pub(crate) fn answers(
         &mut self,
+        history: &mut History,
         by: u8,
         call: Call,
         reply: Reply,
         address: u32,
-    ) -> Option<Entry>
-        ensures { (z : Ground) → Makes z self.old self.new result (λ v. saying by (epoch_in v) call reply address v) }
+    )
+        requires { IsShort history.old }
+        ensures { (z : Ground) → Says z self.old self.new history.old history.new (λ v. saying by (epoch_in v) call reply address v) }
     {
         self.header = None;
-        Some(entry_by(by, pauses_before(self.polled), call, reply, address))
+        history.push(entry_by(by, pauses_before(self.polled), call, reply, address));
     }
 
     pub(crate) fn local(&self, r: u8) -> u32

@@ -2,12 +2,14 @@
 //!
 //! A `Known` owns what a caller knows beside the frames that it owns and its log, which a board reads
 //! off elsewhere. Only that caller's own steps change it, each as the outcome of the step's kind says
-//! (`Makes` in `specs/Parts.antt`). Between any two steps each frame was seen and refused in a search
-//! before the next one alone, so a new search forgets all of them at once.
+//! (`Makes` and `Says` in `specs/Told.antt`). A step puts what it says behind the `History` itself, which
+//! has room for one entry more between any two steps. Between any two steps each frame was seen and
+//! refused in a search before the next one alone, so a new search forgets all of them at once.
 #![tactic(auto)]
 
 mod cells;
 mod collecting;
+mod history;
 mod known;
 mod loads;
 mod looks;
@@ -18,6 +20,7 @@ mod shares;
 mod stores;
 mod words;
 
+pub use history::History;
 pub use known::Known;
 pub use loads::{field_of, kind_told, reply_to_reference};
 pub use polls::answer_alone;

@@ -5,96 +5,110 @@ ghost use Rattle.kn_rule.specs.declared.positions.Position.TheVariants.{Calling}
 ghost use Rattle.kn_rule.specs.Steps.{Found, found};
 ghost use Rattle.kn_rule.specs.Outcomes.{load_body, global_read, header_for_call, field_read, ref_read, ref_word};
 ghost use Rattle.kn_rule.specs.Requests.{told_kind};
-ghost use Rattle.kn_view.specs.Parts.{IsReadAs, IsReadable, Makes};
+ghost use Rattle.kn_view.specs.Parts.{IsReadAs, IsReadable};
+ghost use Rattle.kn_view.specs.Told.{IsShort, Says};
 
+use crate::history::History;
 use crate::known::Known;
 use crate::words::shape_told;
-use kn_graph::{Call, Entry, Reply};
+use kn_graph::{Call, Reply};
 use kn_layout::{FieldKind, Layout, kind_at};
 use kn_rule::Position;
 
 impl Known {
     /// What a load of a header or of a field makes of it.
     #[inline(always)]
-    pub fn loads_body(&mut self, layouts: &[Layout], by: u8, word: u64) -> Option<Entry>
-        requires { IsReadable self.old word }
+    pub fn loads_body(&mut self, history: &mut History, layouts: &[Layout], by: u8, word: u64)
+        requires readable { IsReadable self.old word }
+        requires short { IsShort history.old }
         ensures { (z : Ground) (p : _) (a : _) (page : _) → z.layouts ≡ layouts.now →
-            Makes z self.old self.new result (λ v. load_body z by v p a (found word page) self.old.position self.old.header) }
+            Says z self.old self.new history.old history.new (λ v. load_body z by v p a (found word page) self.old.position self.old.header) }
     {
         match self.position {
             Position::Calling(call) => match self.header {
-                None => self.reads_header(layouts, by, call, word),
-                Some(_) => self.reads_field(by, call, word),
+                None => self.reads_header(history, layouts, by, call, word),
+                Some(_) => self.reads_field(history, by, call, word),
             },
-            _ => None,
+            _ => {}
         }
     }
 
-    fn reads_header(&mut self, layouts: &[Layout], by: u8, call: Call, word: u64) -> Option<Entry>
-        requires { self.old.position ≡ Calling call }
+    fn reads_header(
+        &mut self,
+        history: &mut History,
+        layouts: &[Layout],
+        by: u8,
+        call: Call,
+        word: u64,
+    )
+        requires calling { self.old.position ≡ Calling call }
+        requires short { IsShort history.old }
         ensures { (z : Ground) (p : _) (a : _) (page : _) → z.layouts ≡ layouts.now →
-            Makes z self.old self.new result (λ v. header_for_call z by v p a (found word page) call (Rattle.kn_rule.specs.Requests.field_of call)) }
+            Says z self.old self.new history.old history.new
+            (λ v. header_for_call z by v p a (found word page) call (Rattle.kn_rule.specs.Requests.field_of call)) }
     {
         match field_of(call) {
-            None => None,
+            None => {}
             Some((_, field, wanted)) => match kind_told(layouts, word, field) {
                 None => {
                     self.stands(Position::Between);
-                    self.answers(by, call, Reply::NoField, 0)
+                    self.answers(history, by, call, Reply::NoField, 0);
                 }
                 Some(kind) => {
                     if kind == wanted {
                         self.header = Some(word);
-                        None
                     } else {
                         self.stands(Position::Between);
-                        self.answers(by, call, Reply::WrongKind, 0)
+                        self.answers(history, by, call, Reply::WrongKind, 0);
                     }
                 }
             },
         }
     }
 
-    fn reads_field(&mut self, by: u8, call: Call, word: u64) -> Option<Entry>
-        requires { IsReadAs call word }
+    fn reads_field(&mut self, history: &mut History, by: u8, call: Call, word: u64)
+        requires read { IsReadAs call word }
+        requires short { IsShort history.old }
         ensures { (z : Ground) (p : _) (a : _) (page : _) →
-            Makes z self.old self.new result (λ v. field_read z by v p a (found word page) call) }
+            Says z self.old self.new history.old history.new (λ v. field_read z by v p a (found word page) call) }
     {
         match call {
-            Call::Get(r, _, _) => self.reads_reference(by, call, r, word as u32),
+            Call::Get(r, _, _) => self.reads_reference(history, by, call, r, word as u32),
             Call::Read(_, _) => {
                 self.stands(Position::Between);
-                self.answers(by, call, Reply::Int(word), 0)
+                self.answers(history, by, call, Reply::Int(word), 0);
             }
-            _ => None,
+            _ => {}
         }
     }
 
     /// What a load of a global makes of it.
     #[inline(always)]
-    pub fn loads_global(&mut self, by: u8, word: u32) -> Option<Entry>
-        requires { IsReadable self.old word }
+    pub fn loads_global(&mut self, history: &mut History, by: u8, word: u32)
+        requires readable { IsReadable self.old word }
+        requires short { IsShort history.old }
         ensures { (z : Ground) (p : _) (a : _) (page : _) →
-            Makes z self.old self.new result (λ v. global_read z by v p a (found word page) self.old.position) }
+            Says z self.old self.new history.old history.new (λ v. global_read z by v p a (found word page) self.old.position) }
     {
         match self.position {
             Position::Calling(call) => match call {
-                Call::GlobalGet(r, _) => self.reads_reference(by, call, r, word),
-                _ => None,
+                Call::GlobalGet(r, _) => self.reads_reference(history, by, call, r, word),
+                _ => {}
             },
-            _ => None,
+            _ => {}
         }
     }
 
     // A reference was read into a local.
-    fn reads_reference(&mut self, by: u8, call: Call, r: u8, address: u32) -> Option<Entry>
-        requires { r < 16 }
+    fn reads_reference(&mut self, history: &mut History, by: u8, call: Call, r: u8, address: u32)
+        requires local { r < 16 }
+        requires short { IsShort history.old }
         ensures { (z : Ground) (p : _) (a : _) (f : Found) → f.word ≡ address →
-            Makes z self.old self.new result (λ v. ref_read z by v p a f call r) }
+            Says z self.old self.new history.old history.new (λ v. ref_read z by v p a f call r) }
     {
         self.sets_local(r, address);
         self.stands(Position::Writing(r, address, 0));
-        self.answers(by, call, reply_to_reference(address), 0)
+        self.answers(history, by, call, reply_to_reference(address), 0);
     }
 }
 

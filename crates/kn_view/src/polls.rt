@@ -14,13 +14,15 @@ ghost use Rattle.kn_rule.specs.Requests.{class_asked, asks_too_much};
 ghost use Rattle.kn_rule.specs.Steps.{found};
 ghost use Rattle.kn_rule.specs.Views.{View};
 ghost use Rattle.kn_rule.specs.Outcomes.{polled, poll_run, enters_for, epoch_told, stays_out, waited, waits_at, view_answer};
-ghost use Rattle.kn_view.specs.Parts.{Makes, MayBegin, ground_of, view_with};
+ghost use Rattle.kn_view.specs.Parts.{MayBegin, ground_of, view_with};
+ghost use Rattle.kn_view.specs.Told.{IsShort, Makes, Says};
 
+use crate::history::History;
 use crate::known::{Known, entry_by};
 use crate::shares::joined;
 use crate::words::{is_done, pauses_before, runs};
 use kn_base::Sizes;
-use kn_graph::{Call, Entry, Reply};
+use kn_graph::{Call, Reply};
 use kn_layout::Layout;
 use kn_rule::{Position, class_of_words, is_past_frames, words_asked};
 
@@ -29,160 +31,162 @@ impl Known {
     #[inline(always)]
     pub fn polls(
         &mut self,
+        history: &mut History,
         sizes: &Sizes,
         layouts: &[Layout],
         by: u8,
         word: u64,
         next: Option<Call>,
-    ) -> Option<Entry>
+    )
+        requires short { IsShort history.old }
         requires good { IsGoodGround (ground_of sizes.now layouts.now) }
         requires next { MayBegin (ground_of sizes.now layouts.now) self.old next }
         requires word { word < 2 ^ 35 }
         requires width { length self.old.seen ≡ frame_count sizes.now }
         ensures { let z : Ground = ground_of sizes.now layouts.now in
-            (page : _) → Makes z self.old self.new result (λ v. polled z by v Phase (LoadsFor next) (found word page)) }
+            (page : _) → Says z self.old self.new history.old history.new (λ v. polled z by v Phase (LoadsFor next) (found word page)) }
     {
         match self.position {
             Position::Entering => {
                 if runs(word) {
-                    self.enters(sizes, layouts, by, word, next)
+                    self.enters(history, sizes, layouts, by, word, next);
                 } else {
-                    self.joins(word)
+                    self.joins(word);
                 }
             }
             Position::Between => {
                 if runs(word) {
-                    self.begins(sizes, layouts, by, word, next)
+                    self.begins(history, sizes, layouts, by, word, next);
                 } else {
                     self.stands(Position::Leaving);
-                    None
                 }
             }
-            Position::Waiting => self.waits(by, word),
+            Position::Waiting => self.waits(history, by, word),
             Position::Out => self.joins(word),
-            _ => None,
+            _ => {}
         }
     }
 
     // One that is out, or entering, and finds Mark, keeps its epoch.
-    fn joins(&mut self, word: u64) -> Option<Entry>
+    fn joins(&mut self, word: u64)
         requires { word < 2 ^ 35 }
         ensures { (z : Ground) (c : ℕ) (a : Action) (page : _) →
-            Makes z self.old self.new result (λ v. stays_out z c v Phase a (found word page)) }
+            Makes z self.old self.new (λ v. stays_out z c v Phase a (found word page)) }
     {
         self.work = joined(self.work, word);
-        None
     }
 
     // A run phase lets it in: it waits for the epoch that it wants, or a call begins.
     fn enters(
         &mut self,
+        history: &mut History,
         sizes: &Sizes,
         layouts: &[Layout],
         by: u8,
         word: u64,
         next: Option<Call>,
-    ) -> Option<Entry>
+    )
+        requires short { IsShort history.old }
         requires good { IsGoodGround (ground_of sizes.now layouts.now) }
         requires next { MayBegin (ground_of sizes.now layouts.now) self.old next }
         requires word { word < 2 ^ 35 }
         requires width { length self.old.seen ≡ frame_count sizes.now }
         ensures { let z : Ground = ground_of sizes.now layouts.now in
-            (page : _) → Makes z self.old self.new result (λ v. enters_for z by v Phase (LoadsFor next) (found word page) self.old.target next) }
+            (page : _) → Says z self.old self.new history.old history.new
+            (λ v. enters_for z by v Phase (LoadsFor next) (found word page) self.old.target next) }
     {
         match self.target {
-            None => self.begins(sizes, layouts, by, word, next),
-            Some(target) => self.waits_in(by, word, target),
+            None => self.begins(history, sizes, layouts, by, word, next),
+            Some(target) => self.waits_in(history, by, word, target),
         }
     }
 
     // A poll of one that waits for an epoch: in a stop it leaves, where the epoch is not done.
-    fn waits(&mut self, by: u8, word: u64) -> Option<Entry>
+    fn waits(&mut self, history: &mut History, by: u8, word: u64)
+        requires short { IsShort history.old }
         requires word { word < 2 ^ 35 }
         ensures { (z : Ground) (a : Action) (page : _) →
-            Makes z self.old self.new result (λ v. waits_at z by v Phase a (found word page) (is_run (phase_of word).code) self.old.target) }
+            Says z self.old self.new history.old history.new (λ v. waits_at z by v Phase a (found word page) (is_run (phase_of word).code) self.old.target) }
     {
         match self.target {
-            None => None,
+            None => {}
             Some(target) => {
                 if runs(word) {
-                    self.waits_in(by, word, target)
+                    self.waits_in(history, by, word, target);
                 } else if is_done(target, word) {
                     let polled = self.polled;
-                    self.tells(by, word, polled, target)
+                    self.tells(history, by, word, polled, target);
                 } else {
                     self.stands(Position::Leaving);
-                    None
                 }
             }
         }
     }
 
     // The same in a run phase.
-    fn waits_in(&mut self, by: u8, word: u64, target: u64) -> Option<Entry>
+    fn waits_in(&mut self, history: &mut History, by: u8, word: u64, target: u64)
+        requires short { IsShort history.old }
         requires word { word < 2 ^ 35 }
         ensures { (z : Ground) (a : Action) (page : _) →
-            Makes z self.old self.new result (λ v. waited z by v Phase a (found word page) target) }
+            Says z self.old self.new history.old history.new (λ v. waited z by v Phase a (found word page) target) }
     {
         if is_done(target, word) {
-            self.tells(by, word, word, target)
+            self.tells(history, by, word, word, target);
         } else {
             self.polled = word;
             self.stands(Position::Waiting);
-            None
         }
     }
 
     // The epoch is done that was wanted.
-    fn tells(&mut self, by: u8, word: u64, polled: u64, target: u64) -> Option<Entry>
+    fn tells(&mut self, history: &mut History, by: u8, word: u64, polled: u64, target: u64)
+        requires short { IsShort history.old }
         requires word { word < 2 ^ 35 }
         requires polled { polled < 2 ^ 35 }
         requires done { target ≤ last_done (phase_of word) }
         ensures { (z : Ground) (a : Action) (page : _) →
-            Makes z self.old self.new result (λ v. epoch_told z by v Phase a (found word page) polled target) }
+            Says z self.old self.new history.old history.new (λ v. epoch_told z by v Phase a (found word page) polled target) }
     {
         self.polled = polled;
         self.target = None;
         self.header = None;
         self.stands(Position::Between);
         let reply = Reply::Epoch(target as u32);
-        Some(entry_by(by, pauses_before(word), Call::Collect, reply, 0))
+        history.push(entry_by(by, pauses_before(word), Call::Collect, reply, 0));
     }
 
     // In a run phase a call begins, or none.
     #[inline(always)]
     fn begins(
         &mut self,
+        history: &mut History,
         sizes: &Sizes,
         layouts: &[Layout],
         by: u8,
         word: u64,
         next: Option<Call>,
-    ) -> Option<Entry>
+    )
+        requires short { IsShort history.old }
         requires good { IsGoodGround (ground_of sizes.now layouts.now) }
         requires next { MayBegin (ground_of sizes.now layouts.now) self.old next }
         requires word { word < 2 ^ 35 }
         requires width { length self.old.seen ≡ frame_count sizes.now }
         ensures { let z : Ground = ground_of sizes.now layouts.now in
-            (page : _) → Makes z self.old self.new result (λ v. poll_run z by v Phase (LoadsFor next) (found word page) next) }
+            (page : _) → Says z self.old self.new history.old history.new (λ v. poll_run z by v Phase (LoadsFor next) (found word page) next) }
     {
         match next {
             None => {
                 self.polled = word;
                 self.stands(Position::Between);
-                None
             }
             Some(call) => {
                 let reply = self.answer_to(sizes, layouts, call);
                 self.counts(word, makes_object(call));
                 match reply {
-                    None => {
-                        self.stands(Position::Calling(call));
-                        None
-                    }
+                    None => self.stands(Position::Calling(call)),
                     Some(reply) => {
                         self.stands(Position::Between);
-                        self.answers(by, call, reply, 0)
+                        self.answers(history, by, call, reply, 0);
                     }
                 }
             }

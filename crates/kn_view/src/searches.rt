@@ -13,11 +13,13 @@ ghost use Rattle.kn_rule.specs.Searches.{done_from, is_over};
 ghost use Rattle.kn_rule.specs.Steps.{Found, found};
 ghost use Rattle.kn_rule.specs.Outcomes.{looked_at, full_if, home_at};
 ghost use Rattle.kn_rule.specs.Views.{Open};
-ghost use Rattle.kn_view.specs.Parts.{Makes, MakesOwning, ground_of};
+ghost use Rattle.kn_view.specs.Parts.{ground_of};
+ghost use Rattle.kn_view.specs.Told.{IsShort, Says, SaysOwning};
 
+use crate::history::History;
 use crate::known::Known;
 use kn_base::{SINGLE_CLASS, Sizes, Span};
-use kn_graph::{Call, Entry, Reply};
+use kn_graph::{Call, Reply};
 use kn_layout::Layout;
 use kn_rule::{Position, area_of, class_of_words, is_usable, words_asked};
 
@@ -26,24 +28,27 @@ impl Known {
     #[inline(always)]
     pub fn looks_at(
         &mut self,
+        history: &mut History,
         sizes: &Sizes,
         layouts: &[Layout],
         by: u8,
         frame: u16,
         word: u64,
-    ) -> Option<Entry>
+    )
+        requires short { IsShort history.old }
         requires good { IsGoodGround (ground_of sizes.now layouts.now) }
         requires call { IsRightCall (ground_of sizes.now layouts.now) self.old.position }
         requires near { frame < length self.old.seen }
         ensures { let z : Ground = ground_of sizes.now layouts.now in
-            (a : _) (page : _) → Makes z self.old self.new result (λ v. looked_at z by v (Frame frame) a (found word page) self.old.position) }
+            (a : _) (page : _) → Says z self.old self.new history.old history.new
+            (λ v. looked_at z by v (Frame frame) a (found word page) self.old.position) }
     {
         match self.position {
             Position::Calling(call) => {
                 self.sees(frame, word);
-                self.ends_search(sizes, layouts, by, call)
+                self.ends_search(history, sizes, layouts, by, call);
             }
-            _ => None,
+            _ => {}
         }
     }
 
@@ -72,23 +77,23 @@ impl Known {
     #[inline(always)]
     fn ends_search(
         &mut self,
+        history: &mut History,
         sizes: &Sizes,
         layouts: &[Layout],
         by: u8,
         call: Call,
-    ) -> Option<Entry>
+    )
+        requires short { IsShort history.old }
         requires good { IsGoodGround (ground_of sizes.now layouts.now) }
         requires fits { IsInRange (ground_of sizes.now layouts.now) call }
         requires calling { self.old.position ≡ Calling call }
         ensures { let z : Ground = ground_of sizes.now layouts.now in
             (p : _) (a : _) (f : Found) →
-            Makes z self.old self.new result (λ v. full_if z by v p a f (is_over z call self.old.seen self.old.refused) call v) }
+            Says z self.old self.new history.old history.new (λ v. full_if z by v p a f (is_over z call self.old.seen self.old.refused) call v) }
     {
         if self.is_over(sizes, class_for(sizes, layouts, call)) {
             self.stands(Position::Between);
-            self.answers(by, call, Reply::Full, 0)
-        } else {
-            None
+            self.answers(history, by, call, Reply::Full, 0);
         }
     }
 
@@ -125,31 +130,31 @@ impl Known {
     /// has these free spans.
     pub fn puts_home(
         &mut self,
+        history: &mut History,
         sizes: &Sizes,
         layouts: &[Layout],
         by: u8,
         frame: u16,
         home: (Span, u16),
         spans: &[Span],
-    ) -> Option<Entry>
+    )
+        requires short { IsShort history.old }
         requires good { IsGoodGround (ground_of sizes.now layouts.now) }
         requires call { IsRightCall (ground_of sizes.now layouts.now) self.old.position }
         requires near { frame < length self.old.refused }
         requires frame { home.0 ≡ frame_span sizes.now frame }
         ensures { let z : Ground = ground_of sizes.now layouts.now in
             (a : _) (f : Found) (o : Open) → (frame_of o.word).class ≡ home.1 → o.free ≡ spans.now →
-            MakesOwning z self.old self.new result frame (Some o) None (λ v. home_at z by v (Frame frame) a f self.old.position) }
+            SaysOwning z self.old self.new history.old history.new frame (Some o) None (λ v. home_at z by v (Frame frame) a f self.old.position) }
     {
         match self.position {
             Position::Calling(call) => {
                 if refuses(sizes, layouts, call, home, spans) {
                     self.rules_out(frame);
-                    self.ends_search(sizes, layouts, by, call)
-                } else {
-                    None
+                    self.ends_search(history, sizes, layouts, by, call);
                 }
             }
-            _ => None,
+            _ => {}
         }
     }
 }

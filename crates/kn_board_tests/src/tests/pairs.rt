@@ -1,19 +1,9 @@
 //! A stop of two threads, of which one is in the middle of a birth.
+use super::collecting::read;
 use kn_base::{FrameNo, Place};
-use kn_lines::{Built, TODAY};
-use kn_script::read_script;
 use kn_trace::trace;
 use std::alloc::{AllocError, Global};
 use std::test::Fail;
-
-/// What is built today, and `gc`.
-const WITH_COLLECT: Built = Built {
-    calls: [
-        true, true, true, true, true, true, true, true, true, true, true, false, false, false,
-        false, false, false, false, false, false, false, true,
-    ],
-    ..TODAY
-};
 
 const SIZES: &str = "heap 1 64 0 64 0 2\nnames 0 0 0 0\nlayout fields ref int\nthreads 2\n";
 
@@ -29,7 +19,7 @@ type Seen = ([u64; 4], usize, bool);
 /// five turns behind each one of thread 0.
 fn seen(alloc: Global, turns: u32) -> Result<Option<Seen>, AllocError> {
     let text = format!(in alloc; "{SIZES}turns {turns}\n{CALLS}")?;
-    let Ok(script) = read_script(alloc, &WITH_COLLECT, text.as_bytes()) else {
+    let Some(script) = read(alloc, text.as_str()) else {
         return Ok(None);
     };
     let traced = trace(alloc, &script)?;
@@ -45,7 +35,7 @@ fn seen(alloc: Global, turns: u32) -> Result<Option<Seen>, AllocError> {
 }
 
 /// No turn of the collector counts thread 0 until its birth is answered, its page is home, and it is
-/// out. Then it needs four turns to Mark.
+/// out. Then it needs four turns to Mark. Behind the pause thread 0 goes in again, and ends.
 #[test]
 fn a_stop_waits_for_a_birth_and_its_page(rt: HostRuntime) -> Result<(), Fail> {
     let table: [(u32, Seen); 15] = [
@@ -63,7 +53,7 @@ fn a_stop_waits_for_a_birth_and_its_page(rt: HostRuntime) -> Result<(), Fail> {
         (71, ([9, 1, 0, 0], 1, true)),
         (72, ([9, 1, 4, 0], 1, true)),
         (73, ([10, 1, 4, 0], 1, true)),
-        (1000, ([10, 1, 4, 0], 1, true)),
+        (1000, ([11, 1, 0, 2], 3, true)),
     ];
     for (turns, wanted) in table {
         let found = seen(rt.alloc(), turns)?;

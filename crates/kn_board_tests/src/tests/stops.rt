@@ -1,5 +1,5 @@
 //! A stop of one mutator, whose steps are made by hand.
-ghost use Rattle.std.specs.Prelude.{◌≡◌, ℕ, Option, Some, None};
+ghost use Rattle.std.specs.Prelude.{◌≡◌, ℕ, IfOk, IfSome, Option, Some, None, slice_index};
 ghost use Rattle.kn_base.specs.declared.places.Place.TheVariants.{State};
 ghost use Rattle.kn_graph.specs.declared.calls.Call.TheVariants.{Collect};
 ghost use Rattle.kn_rule.specs.declared.positions.Position.{Position};
@@ -11,41 +11,25 @@ ghost use Rattle.kn_steps.specs.Made.{Allowed};
 ghost use Rattle.kn_board.specs.World.{lies_at, stand_at};
 ghost use Rattle.kn_collector.specs.Agree.{Agrees};
 ghost use Rattle.kn_collector.specs.Kept.{Kept};
+ghost use Rattle.kn_script.specs.Good.{IsGoodScript};
 ghost use Rattle.kn_board_tests.specs.Stands.{MutatorAt};
 
-use kn_base::{Caller, Place, Sizes};
+use super::collecting::read;
+use kn_base::{Caller, Place};
 use kn_board::Board;
 use kn_collector::Collector;
 use kn_graph::Call;
-use kn_layout::{FieldKind, FieldKinds, Layout};
 use kn_others::laws::turn_laws;
 use kn_page::{Page, open_pages};
 use kn_rule::Kind;
+use kn_script::{Script, state_laws};
 use kn_steps::{Steps, Turn};
-use std::alloc::AllocError;
+use std::alloc::{AllocError, Global};
 
-// A frame of 64 words, and a thread with one call.
-const ONE_CALL: Sizes = Sizes {
-    small: 1,
-    small_words: 64,
-    large: 0,
-    large_words: 32,
-    extra: 0,
-    extra_words: 2,
-    globals: 0,
-    stable: 0,
-    weak: 0,
-    back: 0,
-    threads: 1,
-    calls: [1, 0, 0, 0, 0, 0, 0, 0, 0, 0, 0, 0, 0, 0, 0, 0],
-    births: [0; 16],
-};
+const ONE_CALL: &str =
+    "heap 1 64 0 32 0 2\nnames 0 0 0 0\nlayout fields ref\nthreads 1\nthread 0\ngc\n";
 
-// The same, with no call.
-const NO_CALL: Sizes = Sizes {
-    calls: [0; 16],
-    ..ONE_CALL
-};
+const NO_CALL: &str = "heap 1 64 0 32 0 2\nnames 0 0 0 0\nlayout fields ref\nthreads 1\n";
 
 fn goes_in(board: Board<Page>) -> Board<Page>
     requires { MutatorAt Out None 0 board }
@@ -123,6 +107,38 @@ fn ends(board: Board<Page>) -> Board<Page>
     seat.into_board()
 }
 
+/// The script of a text, where it has one thread with so many calls.
+fn of_one(alloc: Global, text: &str, calls: u32) -> Option<Script>
+    ensures good { IfSome result IsGoodScript }
+    ensures threads { IfSome result (λ script. script.sizes.threads ≡ 1) }
+    ensures calls { IfSome result (λ script. slice_index script.sizes.calls 0 ≡ calls) }
+{
+    let script = read(alloc, text)?;
+    if script.sizes.threads == 1 && script.sizes.calls[0] == calls {
+        Some(script)
+    } else {
+        None
+    }
+}
+
+/// The board and the collector of a script of one thread, before any step.
+fn opens(alloc: Global, script: &Script) -> Result<(Board<Page>, Collector), AllocError>
+    requires good { IsGoodScript script.now }
+    requires threads { script.now.sizes.threads ≡ 1 }
+    ensures threads { IfOk result (λ o. o.0.heap.sizes.threads ≡ 1) }
+    ensures agrees { IfOk result (λ o. Agrees o.1 (stand_at 1 o.0)) }
+    ensures stands { IfOk result (λ o. slice_index script.now.sizes.calls 0 ≡ 1 → MutatorAt Out None 0 o.0) }
+    ensures may_end { IfOk result (λ o. slice_index script.now.sizes.calls 0 ≡ 0
+        → Allowed (stand_at 0 o.0) (lies_at o.0) (does K2 (State 0) (Stores 2))) }
+{
+    state_laws();
+    turn_laws();
+    let pages = open_pages(alloc, &script.sizes)?;
+    let board = Board::open(alloc, &script.sizes, &script.layouts, pages)?;
+    let collector = Collector::open(alloc, script)?;
+    Ok((board, collector))
+}
+
 // One turn of the collector, unless it has ended.
 fn collects(board: Board<Page>, collector: &mut Collector) -> (Board<Page>, Turn)
     requires threads { board.heap.sizes.threads ≡ 1 }
@@ -146,7 +162,6 @@ fn idles(turn: Turn) -> Option<(u8, u64)> {
     match turn {
         Turn::Idle(Place::Want, word) => Some((0, word)),
         Turn::Idle(Place::State(0), word) => Some((1, word)),
-        Turn::Idle(Place::Pending, word) => Some((2, word)),
         _ => None,
     }
 }
@@ -154,13 +169,8 @@ fn idles(turn: Turn) -> Option<(u8, u64)> {
 #[test]
 fn a_collector_stops_a_mutator_and_stores_mark(rt: HostRuntime) -> Result<(), AllocError> {
     let alloc = rt.alloc();
-    turn_laws();
-    let kinds = Vec::from_slice(alloc, &[FieldKind::Ref])?;
-    let layouts = [Layout::Fields(FieldKinds::from_vec(kinds))];
-    let pages = open_pages(alloc, &ONE_CALL)?;
-    let board = Board::open(alloc, &ONE_CALL, &layouts, pages)?;
-    board.rule_holds();
-    let mut collector = Collector::open(&ONE_CALL);
+    let script = of_one(alloc, ONE_CALL, 1).expect(&rt, "a script of one call");
+    let (board, mut collector) = opens(alloc, &script)?;
 
     let board = goes_in(board);
     let (board, idle) = begins(board);
@@ -195,7 +205,7 @@ fn a_collector_stops_a_mutator_and_stores_mark(rt: HostRuntime) -> Result<(), Al
         (turn_8, None),
         (turn_9, None),
         (turn_10, None),
-        (turn_11, Some((2, 3))),
+        (turn_11, None),
     ];
     for (turn, idle) in turns {
         assert!(rt; idles(turn) == idle);
@@ -210,13 +220,8 @@ fn a_collector_stops_a_mutator_and_stores_mark(rt: HostRuntime) -> Result<(), Al
 #[test]
 fn a_collector_ends_behind_the_mutators(rt: HostRuntime) -> Result<(), AllocError> {
     let alloc = rt.alloc();
-    turn_laws();
-    let kinds = Vec::from_slice(alloc, &[FieldKind::Ref])?;
-    let layouts = [Layout::Fields(FieldKinds::from_vec(kinds))];
-    let pages = open_pages(alloc, &NO_CALL)?;
-    let board = Board::open(alloc, &NO_CALL, &layouts, pages)?;
-    board.rule_holds();
-    let mut collector = Collector::open(&NO_CALL);
+    let script = of_one(alloc, NO_CALL, 0).expect(&rt, "a script without calls");
+    let (board, mut collector) = opens(alloc, &script)?;
     let board = ends(board);
     let (board, _looked) = collects(board, &mut collector);
     let (board, _chosen) = collects(board, &mut collector);

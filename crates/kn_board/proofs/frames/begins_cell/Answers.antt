@@ -32,10 +32,10 @@ cut-requires c =
 
 pub returns-in-Some : goal.returns-in-Some
 returns-in-Some c =
-    let sizes = c.args.sizes.now in let layouts = c.args.layouts.now in let s = c.args.step in λ page.
+    let sizes = c.args.sizes.now in let layouts = c.args.layouts.now in let s = c.args.step in λ page history.
     cut_noted (ground_of sizes layouts) c.requires.good s.by c.args.known.now s.place s.act s.word c.args.holds.now.items c.requires.fits
     c.requires.asks c.requires.none c.address_in-address.result c.address_in-address.ensures
     c.frame_with-frame.result c.frame_with-frame.ensures c.index_mut-hold.result.now
     c.index_mut-hold.ensures.value c.in-Some.cell c.in-Some.class c.in-Some.ensures
-    (found s.word page) refl c.cut.new.self c.span_of-start.result.start (ap (λ (x : Span). x.start) c.span_of-start.ensures)
+    (found s.word page) refl history c.cut.new.self c.span_of-start.result.start (ap (λ (x : Span). x.start) c.span_of-start.ensures)
     c.cut.ensures.cut (c.cut.ensures.apart (frame_span sizes c.frame_with-frame.result)) c.takes.new.self c.takes.ensures

@@ -38,5 +38,5 @@ returns g c = λ page lies.
     let swept = c.sweep_start.ensures ∙ ap (λ w. sweep_begun z.sizes k.result (frame_of w).kind) c.wanted_by-wanted.ensures in
     claim_made z s.by c.args.known.now c.args.holds.now.items c.requires.fits s.place s.act (found s.word page)
     (flattened (slice_get slots (frame_in s.place))) c.requires.asks won k.result c.stored_by.result k.ensures c.stored_by.ensures
-    (sweep_from k.result c.sweep_start.result) swept (c.requires.pages k.result page near here)
+    (sweep_from k.result c.sweep_start.result) swept (c.requires.pages k.result page near here) c.args.history.now
     c.begins_sweep.new.self c.begins_sweep.ensures c.owns.new.holds.items (c.owns.ensures page here)

@@ -26,7 +26,7 @@ returns c = λ page.
     ap (λ (h : Hold). (frame_of h.word).class) (sym now)
     ∙ sym (c.class_of.ensures ∙ ap (λ w. (frame_of w).class) c.word.ensures) in
     let free : (hold_at holds k.result).free.spans ≡ c.spans.result.now = ap (λ (h : Hold). h.free.spans) (sym now) ∙ sym c.spans.ensures in
-    subst (λ h. Noted z s.by c.args.known.now c.puts_home.new.self holds (slice_set holds k.result h) c.puts_home.result
+    subst (λ h. Noted z s.by c.args.known.now c.puts_home.new.self holds (slice_set holds k.result h) c.args.history.now c.puts_home.new.history
     (λ v. outcome z s.by v s.place s.act f K11)) (sym now)
     (home_noted z s.by c.args.known.now holds c.requires.fits s.place s.act f c.requires.asks k.result k.ensures
-    c.puts_home.new.self c.puts_home.result (c.puts_home.ensures s.act f (open_of (hold_at holds k.result)) class free))
+    c.puts_home.new.self c.args.history.now c.puts_home.new.history (c.puts_home.ensures s.act f (open_of (hold_at holds k.result)) class free))

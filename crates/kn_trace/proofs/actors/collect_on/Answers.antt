@@ -7,7 +7,7 @@ use Rattle.kn_trace.proofs.actors.collect_on.Goals.{in-Done, in_default}
 pub returns-clause-made : goal.returns-clause-made
 returns-clause-made c = made_collection c.args.board c.into_board.result c.args.by c.args.collector.now c.turn-reply.new.self c.at-seat.result
     c.turn-reply.new.steps c.turn-reply.result c.at-seat.ensures.by c.at-seat.ensures.board c.into_board.ensures c.rule_holds.ensures
-    c.turn-reply.ensures.turned c.turn-reply.ensures.one c.turn-reply.ensures.agrees c.turn-reply.ensures.quiet
+    c.turn-reply.ensures.turned c.turn-reply.ensures.one c.turn-reply.ensures.agrees
 
 pub returns-clause-ended : goal.returns-clause-ended
 returns-clause-ended c =

@@ -3,7 +3,7 @@ use Rattle.kn_graph.specs.declared.entries.Entry.{Entry}
 use Rattle.kn_graph.specs.Logs.{LogsFit}
 use Rattle.kn_script.specs.Scripts.{Scripted}
 use Rattle.kn_trace.specs.Between.{TakesAll, trace_of}
-use Rattle.kn_trace.proofs.Ends.{complete, few, fit, legal, partial}
+use Rattle.kn_trace.proofs.Ends.{complete, few, fit, ground_is, legal, partial}
 use Rattle.kn_trace.proofs.Starting.{ended_where, has_run}
 use Rattle.kn_trace.proofs.runs.trace.Goals as goal
 
@@ -20,6 +20,7 @@ returns c =
     let is_spent = c.is_going_on-is_spent.result in
     let is = c.is_going_on-is_spent.ensures in
     record {
+      heap = ground_is now good first last start taken.stays sound taken.holds;
       run = has_run now is_spent first last start takes is;
       legal = legal now good first last start taken.stays sound taken.holds;
       logs = subst (λ (logs : List (List Entry)). LogsFit (now.sizes.threads + 2) logs last.board.history) (sym c.in_ok-logs.ensures)

@@ -1,4 +1,4 @@
-use Rattle.std.proofs.Common.{sym, ap, ◌∙◌, subst}
+use Rattle.std.proofs.Common.{sym, subst}
 use Rattle.kn_alloc.specs.Keeps.{Keeps}
 use Rattle.kn_alloc.specs.Agree.{Agrees}
 use Rattle.kn_alloc.proofs.Clears.{cleared, cleared_tells, may_clear}
@@ -14,7 +14,7 @@ returns-clause-agrees g c =
     let a = g.T.Steps.stand c.args.steps.now in
     let b = g.T.Steps.stand c.store.new.self in
     let here' = g.T.Steps.here c.store.new.self in
-    subst (λ (m : Keeps). Agrees m b here') (sym (c.goes_to.ensures ∙ ap (λ s. record c.args.self.now { stage = s }) c.stage_after.ensures))
+    subst (λ (m : Keeps). Agrees m b here') (sym c.has_cleared.ensures)
     (cleared c.args.self.now a (g.T.Steps.here c.args.steps.now) c.requires.agrees c.args.cell c.word_at.result c.frame_law.ensures
     c.args.number c.requires.stage b here' c.store.ensures.0 c.store.ensures.1)
 

@@ -1,5 +1,5 @@
 use Rattle.std.proofs.Common.{sym, ap, ◌∙◌, subst}
-use Rattle.kn_alloc.specs.Keeps.{Keeps}
+use Rattle.kn_alloc.specs.Keeps.{Keeps, stage_behind}
 use Rattle.kn_alloc.specs.declared.stage.AllocTurn.{AllocTurn}
 use Rattle.kn_alloc.specs.Tells.{TellsView}
 use Rattle.kn_alloc.specs.Agree.{Agrees, IsSweeping}
@@ -21,7 +21,7 @@ returns-clause-agrees g c = λ still.
     let h = c.seeks-look.ensures in
     let q' = c.seeks-look.new.self.search in
     let t = h.turned in
-    let e = c.goes_to.ensures ∙ (λ i. record (h.kept i) { stage = c.stage_behind.ensures i }) in
+    let e = c.goes_behind.ensures ∙ (λ i. record (h.kept i) { stage = stage_behind look }) in
     subst (λ (q : Keeps). Agrees q b here') (sym e)
     (searched m a (g.T.Steps.here c.args.steps.now) c.requires.agrees c.requires.stage q' b here' t.step t.found t.made look t.turn h.agrees
     (λ l o. let f = sym l ∙ h.full.1 o in absurd (cc)) h.saw h.ended (λ w. still (subst IsSweeping (sym (ap (λ (q : Keeps). q.stage) e)) w)))

@@ -1,13 +1,15 @@
-use Rattle.std.proofs.Common.{◌≡◌, refl, arith}
-use Rattle.kn_trace.proofs.FirstPages.{first_whole}
-use Rattle.kn_board_tests.proofs.Standing.{stands_first}
+use Rattle.std.proofs.Common.{◌≡◌, Option, slice_index, subst, arith}
+use Rattle.std.specs.Prelude.{IfSome}
+use Rattle.kn_script.specs.Scripts.{Scripted}
 use Rattle.kn_board_tests.proofs.tests.stops.a_collector_stops_a_mutator_and_stores_mark.Goals as goal
 
-pub open-requires-clause-whole : goal.open-requires-clause-whole
-open-requires-clause-whole g c = first_whole _ _ c.in_ok-pages.ensures
-
 pub goes_in-board-requires : goal.goes_in-board-requires
-goes_in-board-requires g c = stands_first c.turn_laws.ensures.opened _ _ c.in_ok-board.board c.in_ok-board.ensures refl refl
+goes_in-board-requires g c =
+    let given = subst (λ (o : Option Scripted). IfSome o (λ s. slice_index s.sizes.calls 0 ≡ 1)) c.expect-script.ensures c.of_one.ensures.calls in
+    c.in_ok-board.ensures.stands given
+
+pub collects-board-requires-clause-agrees : goal.collects-board-requires-clause-agrees
+collects-board-requires-clause-agrees g c = c.begins-board.ensures.collector _ (c.goes_in-board.ensures.collector _ c.in_ok-board.ensures.agrees)
 
 pub wants-board-requires : goal.wants-board-requires
 wants-board-requires g c =

@@ -1,6 +1,6 @@
 use Rattle.std.proofs.Common.{ap, ◌∙◌}
 use Rattle.kn_graph.specs.Ground.{Ground}
-use Rattle.kn_board_tests.proofs.Stepping.{collector_steps, seat_agrees}
+use Rattle.kn_board_tests.proofs.Stepping.{collector_turns, seat_agrees}
 use Rattle.kn_board_tests.proofs.Standing.{stands_still}
 use Rattle.kn_board_tests.proofs.tests.stops.collects.Goals as goal
 
@@ -12,9 +12,9 @@ pub returns : goal.returns
 returns c =
     let w = c.args.board in
     let w' = c.into_board.result in
-    let t = collector_steps c.turn_laws.ensures.others c.turn_laws.ensures.heap w c.rule_holds.ensures c.requires.threads c.at-seat.result
-    c.at-seat.ensures.by c.at-seat.ensures.board c.turn-turn.new.steps w' c.into_board.ensures c.args.collector.now c.turn-turn.new.self
-    c.turn-turn.result c.turn-turn.ensures.turned c.turn-turn.ensures.agrees in
+    let t = collector_turns c.turn_laws.ensures.others c.turn_laws.ensures.heap w c.rule_holds.ensures c.requires.threads c.at-seat.result
+    c.at-seat.ensures.by c.at-seat.ensures.board c.turn-turn.new.steps w' c.into_board.ensures c.turn-turn.ensures.one c.turn-turn.new.self
+    c.turn-turn.ensures.agrees in
     record {
       threads = ap (λ (z : Ground). z.sizes.threads) t.1 ∙ c.requires.threads;
       agrees = t.0;

@@ -26,6 +26,7 @@ returns g c =
     let k : Kept = c.args.self.now in
     let h = c.store.ensures in
     let e = c.from.ensures ∙ ap (λ (q : Kept). q.by) c.self.view_is in
-    goes t.stand t.here t.did k c.args.steps.now c.store.new.self Begins c.requires.stage (does K16 Pending (Stores (k.by + 2))) h.0 refl
+    goes t.stand t.here t.did t.moved k c.args.steps.now c.store.new.self c.requires.agrees Begins c.requires.stage
+    (does K16 Pending (Stores (k.by + 2))) h.0 refl
     (does K16 Pending (Stores (c.from.result + 2))) (ap (λ n. does K16 Pending (Stores (n + 2))) e) h.1 h.2
     (λ made. begun_agrees c.requires.agrees c.requires.stage made) c.goes_to.new.self c.goes_to.ensures Moved refl

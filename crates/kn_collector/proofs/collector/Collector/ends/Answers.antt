@@ -24,6 +24,6 @@ returns g c =
     let t = g.T.Steps in
     let k : Kept = c.args.self.now in
     let h = c.store.ensures in
-    goes t.stand t.here t.did k c.args.steps.now c.store.new.self Ends c.requires.stage (does K2 (State k.by) (Stores 2)) h.0 refl
+    goes t.stand t.here t.did t.moved k c.args.steps.now c.store.new.self c.requires.agrees Ends c.requires.stage (does K2 (State k.by) (Stores 2)) h.0 refl
     (does K2 (State c.self.inside.by) (Stores 2)) (ap (λ (q : Kept). does K2 (State q.by) (Stores 2)) c.self.view_is) h.1 h.2
     (λ made. ended_agrees c.requires.agrees c.requires.stage made) c.goes_to.new.self c.goes_to.ensures Done refl

@@ -19,6 +19,6 @@ returns g c =
     let t = g.T.Steps in
     let h = c.load-word.ensures in
     let d : Step = does K15 (State c.args.mutator) Loads in
-    goes t.stand t.here t.did c.args.self.now c.args.steps.now c.load-word.new.self (Looks c.args.mutator) c.requires.stage d
+    goes t.stand t.here t.did t.moved c.args.self.now c.args.steps.now c.load-word.new.self c.requires.agrees (Looks c.args.mutator) c.requires.stage d
     (found c.load-word.result h.0) refl d refl h.1 h.2
     (λ made. looked_agrees c.requires.agrees c.args.mutator made c.requires.stage) c.judges.new.self c.judges.ensures Moved refl

@@ -27,7 +27,7 @@ returns g c =
     let k : Kept = c.args.self.now in
     let h = c.store.ensures in
     let e = c.phase_word.ensures ∙ ap (λ (q : Kept). phase_word (q.epoch + 1) codes.StopA) c.self.view_is in
-    goes t.stand t.here t.did k c.args.steps.now c.store.new.self Stops c.requires.stage
+    goes t.stand t.here t.did t.moved k c.args.steps.now c.store.new.self c.requires.agrees Stops c.requires.stage
     (does K14 Phase (Stores (phase_word (k.epoch + 1) codes.StopA))) h.0 refl
     (does K14 Phase (Stores c.phase_word.result)) (ap (λ w. does K14 Phase (Stores w)) e) h.1 h.2
     (λ made. stopped_agrees c.requires.agrees c.requires.stage made) c.goes_to.new.self

@@ -18,7 +18,7 @@ returns g c =
     let t = g.T.Steps in
     let h = c.load-word.ensures in
     let d : Step = does K13 Want Loads in
-    goes t.stand t.here t.did c.args.self.now c.args.steps.now c.load-word.new.self (Wants c.args.all_ended) c.requires.stage d
+    goes t.stand t.here t.did t.moved c.args.self.now c.args.steps.now c.load-word.new.self c.requires.agrees (Wants c.args.all_ended) c.requires.stage d
     (found c.load-word.result h.0) refl d refl h.1 h.2
     (λ made. wanted_agrees c.requires.agrees c.epochs_are_few.ensures c.args.all_ended c.requires.stage made)
     c.chooses.new.self c.chooses.ensures.behind c.chooses.result c.chooses.ensures.answer

@@ -4,6 +4,9 @@ use Rattle.kn_mutator.proofs.mutator.Mutator.goes_on.Goals as goal
 pub returns-in-Out : goal.returns-in-Out
 returns-in-Out g c = goes_any c.looks.ensures
 
+pub returns-in-Helps : goal.returns-in-Helps
+returns-in-Helps g c = goes_any c.helps.ensures
+
 pub returns-in-GoesIn : goal.returns-in-GoesIn
 returns-in-GoesIn g c = goes_any c.goes_in.ensures
 

@@ -5,6 +5,7 @@ use Rattle.kn_graph.specs.Ground.{IsGoodGround}
 use Rattle.kn_script.specs.Scripts.{Scripted, ground_of}
 use Rattle.kn_rule.specs.Rule.{fresh}
 use Rattle.kn_alloc.specs.Keeps.{new_keeps}
+use Rattle.kn_mark.specs.Kept.{new_kept}
 use Rattle.kn_mutator.specs.Agree.{Agrees}
 use Rattle.kn_mutator.specs.Mutating.{Mutating, first_task, new_mutating}
 use Rattle.kn_mutator.proofs.Opens.{few_calls, good_ground, ground_read, opened}
@@ -28,6 +29,8 @@ returns-clause-agrees c = λ here.
     c.first_task.ensures ∙ ap first_task (c.deref-2.ensures.value ∙ calls) in
     let alloc : c.in_ok-open.field-0 ≡ new_keeps s.sizes c.args.i =
     c.in_ok-open.ensures ∙ ap (λ (s : Scripted). new_keeps s.sizes c.args.i) c.script.view_is in
+    let marker : c.open-2.result ≡ new_kept s.sizes =
+    c.open-2.ensures ∙ ap (λ (s : Scripted). new_kept s.sizes) c.script.view_is in
     let log : c.in_ok-log.log.items ≡ [] = c.in_ok-log.ensures.items in
     let is : _ ≡ new_mutating (ground_of s) c.args.i (slice_index_or s.threads c.args.i []) = λ t. record {
       heap = heap t;
@@ -39,6 +42,7 @@ returns-clause-agrees c = λ here.
       locals = replicate LOCALS 0;
       task = task t;
       alloc = alloc t;
+      marker = marker t;
       log = log t;
     } in
     subst (λ (m : Mutating). Agrees m (record { heap = ground_of s; by = c.args.i; view = fresh (ground_of s) }) here) (sym is)

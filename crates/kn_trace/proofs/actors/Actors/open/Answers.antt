@@ -1,6 +1,6 @@
 use Rattle.std.proofs.Common.{◌∙◌, ◌+◌, false, sym, ap, replicate, vec_len}
 use Rattle.kn_script.specs.Scripts.{Scripted}
-use Rattle.kn_collector.specs.Kept.{Kept, new_kept}
+use Rattle.kn_collector.specs.Kept.{Kept}
 use Rattle.kn_trace.specs.Traces.{ends}
 use Rattle.kn_trace.proofs.Opening.{filled, first_counts, first_flags}
 use Rattle.kn_trace.proofs.actors.Actors.open.Goals as goal
@@ -18,7 +18,7 @@ invariant_of-result c =
           c.new-ended.ensures.len c.in_ok-resize.ensures.items
           ∙ (ap (λ k. replicate (k + 1) false) (c.from-actors.ensures ∙ each)
           ∙ (first_flags now _ ms new
-          ∙ ap (λ (k : Kept). ends ms k) (sym (c.open.ensures.new ∙ ap new_kept threads)))),
+          ∙ ap (λ (k : Kept). ends ms k) (sym c.in_ok-collector.ensures.new))),
       filled c.new-answered.result.items c.resize-2.new.self.items (vec_len c.new-answered.result) (n + 1) 0 c.new-answered.ensures.items
           c.new-answered.ensures.len c.in_ok-resize-2.ensures.items
           ∙ (ap (λ k. replicate (k + 1) 0) (c.from-actors.ensures ∙ each) ∙ first_counts now _ ms new),

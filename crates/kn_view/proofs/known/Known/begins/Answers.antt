@@ -1,10 +1,11 @@
-use Rattle.std.proofs.Common.{◌∙◌, ap, sym, []}
+use Rattle.std.proofs.Common.{◌∙◌, ap, sym}
 use Rattle.kn_base.specs.declared.places.Place.TheVariants.{Phase}
 use Rattle.kn_rule.specs.declared.positions.Position.TheVariants.{Between, Calling}
 use Rattle.kn_rule.specs.declared.steps.Action.TheVariants.{LoadsFor}
-use Rattle.kn_rule.specs.Steps.{Outcome, found}
+use Rattle.kn_rule.specs.Steps.{found, quietly}
 use Rattle.kn_rule.specs.Outcomes.{poll_run, begin_with}
 use Rattle.kn_view.specs.Parts.{Part, ground_of, view_with}
+use Rattle.kn_view.specs.Told.{told}
 use Rattle.kn_view.proofs.Answering.{answered}
 use Rattle.kn_view.proofs.Looked.{begun}
 use Rattle.kn_view.proofs.known.Known.begins.Goals as goal
@@ -16,11 +17,12 @@ returns-in-None-reply c = λ page owned log.
     let f = found c.args.word page in
     let call = c.in-Some.call in
     let a = LoadsFor c.args.next in
-    ap (λ (q : Part). let o : Outcome = record { view = view_with z q owned log; says = [] } in o)
+    let h = c.args.history.now in
+    ap (λ (q : Part). told h (quietly (view_with z q owned log)))
     (begun c.args.self.now _ _ c.args.word _ _ _ _ (Calling call) c.stands-in-None-reply.ensures c.counts.ensures c.requires.width
     c.makes_object.ensures)
-    ∙ sym (ap (poll_run z c.args.by v Phase a f) c.in-Some.is
-    ∙ ap (begin_with z c.args.by v Phase a f call) (sym (c.answer_to-reply.ensures owned log) ∙ c.in-None-reply.is))
+    ∙ ap (told h) (sym (ap (poll_run z c.args.by v Phase a f) c.in-Some.is
+    ∙ ap (begin_with z c.args.by v Phase a f call) (sym (c.answer_to-reply.ensures owned log) ∙ c.in-None-reply.is)))
 
 pub returns-in-Some-reply : goal.returns-in-Some-reply
 returns-in-Some-reply c = λ page owned log.
@@ -29,8 +31,8 @@ returns-in-Some-reply c = λ page owned log.
     let f = found c.args.word page in
     let call = c.in-Some.call in
     let a = LoadsFor c.args.next in
-    answered z _ _ _ c.args.by call c.in-Some-reply.reply 0 _
+    answered z _ _ _ _ c.args.by call c.in-Some-reply.reply 0 _
     (begun c.args.self.now _ _ c.args.word _ _ _ _ Between c.stands-in-Some-reply.ensures c.counts.ensures c.requires.width
     c.makes_object.ensures) (c.answers.ensures z) owned log
-    ∙ sym (ap (poll_run z c.args.by v Phase a f) c.in-Some.is
-    ∙ ap (begin_with z c.args.by v Phase a f call) (sym (c.answer_to-reply.ensures owned log) ∙ c.in-Some-reply.is))
+    ∙ ap (told c.args.history.now) (sym (ap (poll_run z c.args.by v Phase a f) c.in-Some.is
+    ∙ ap (begin_with z c.args.by v Phase a f call) (sym (c.answer_to-reply.ensures owned log) ∙ c.in-Some-reply.is)))

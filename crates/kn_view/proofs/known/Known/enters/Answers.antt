@@ -4,6 +4,7 @@ use Rattle.kn_rule.specs.declared.steps.Action.TheVariants.{LoadsFor}
 use Rattle.kn_rule.specs.Steps.{found}
 use Rattle.kn_rule.specs.Outcomes.{enters_for}
 use Rattle.kn_view.specs.Parts.{Part, ground_of, view_with}
+use Rattle.kn_view.specs.Told.{told}
 use Rattle.kn_view.proofs.known.Known.enters.Goals as goal
 
 pub returns-in-Some : goal.returns-in-Some
@@ -13,4 +14,4 @@ returns-in-Some c = λ page owned log.
     let f = found c.args.word page in
     let target : Some c.in-Some.target ≡ c.args.self.now.target = sym c.in-Some.is ∙ ap (λ (q : Part). q.target) c.self.view_is in
     c.waits_in.ensures z (LoadsFor c.args.next) page owned log
-    ∙ (λ t. enters_for z c.args.by v Phase (LoadsFor c.args.next) f (target t) c.args.next)
+    ∙ (λ t. told c.args.history.now (enters_for z c.args.by v Phase (LoadsFor c.args.next) f (target t) c.args.next))

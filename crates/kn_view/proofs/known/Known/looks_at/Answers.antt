@@ -3,6 +3,7 @@ use Rattle.kn_base.specs.declared.places.Place.TheVariants.{Frame}
 use Rattle.kn_rule.specs.Steps.{found}
 use Rattle.kn_rule.specs.Outcomes.{looked_at}
 use Rattle.kn_view.specs.Parts.{ground_of, view_with}
+use Rattle.kn_view.specs.Told.{told}
 use Rattle.kn_view.proofs.Answering.{searched, stands_at}
 use Rattle.kn_view.proofs.known.Known.looks_at.Goals as goal
 
@@ -14,5 +15,5 @@ returns-in-Calling c = λ a page owned log.
     let old = c.args.self.now in
     let v = view_with z old owned log in
     let part = record old { seen = slice_set old.seen c.args.frame (Some c.args.word) } in
-    searched z _ _ _ c.args.by c.in-Calling.call p a f part v c.sees.ensures (λ _. v.polled) (c.ends_search.ensures p a f) owned log
-    ∙ sym (ap (looked_at z c.args.by v p a f) (stands_at _ old _ c.self.view_is c.in-Calling.is))
+    searched z _ _ _ _ c.args.by c.in-Calling.call p a f part v c.sees.ensures (λ _. v.polled) (c.ends_search.ensures p a f) owned log
+    ∙ ap (told c.args.history.now) (sym (ap (looked_at z c.args.by v p a f) (stands_at _ old _ c.self.view_is c.in-Calling.is)))

@@ -7,6 +7,7 @@ use Rattle.kn_rule.specs.Phases.{is_run}
 use Rattle.kn_rule.specs.Steps.{found}
 use Rattle.kn_rule.specs.Outcomes.{poll_at}
 use Rattle.kn_view.specs.Parts.{Part, ground_of, view_with}
+use Rattle.kn_view.specs.Told.{told}
 use Rattle.kn_view.proofs.known.Known.polls.Goals as goal
 
 pub returns-in-Waiting : goal.returns-in-Waiting
@@ -16,7 +17,8 @@ returns-in-Waiting c = λ page owned log.
     let f = found c.args.word page in
     let at : Waiting ≡ c.args.self.now.position = sym c.in-Waiting.is ∙ ap (λ (q : Part). q.position) c.self.view_is in
     c.waits.ensures z (LoadsFor c.args.next) page owned log
-    ∙ (λ t. poll_at z c.args.by v Phase (LoadsFor c.args.next) f (at t) (is_run (phase_of c.args.word).code) c.args.next)
+    ∙ (λ t. told c.args.history.now
+    (poll_at z c.args.by v Phase (LoadsFor c.args.next) f (at t) (is_run (phase_of c.args.word).code) c.args.next))
 
 pub returns-in-Out : goal.returns-in-Out
 returns-in-Out c = λ page owned log.
@@ -24,8 +26,9 @@ returns-in-Out c = λ page owned log.
     let v = view_with z c.args.self.now owned log in
     let f = found c.args.word page in
     let at : Out ≡ c.args.self.now.position = sym c.in-Out.is ∙ ap (λ (q : Part). q.position) c.self.view_is in
-    c.joins-in-Out.ensures z c.args.by (LoadsFor c.args.next) page owned log
-    ∙ (λ t. poll_at z c.args.by v Phase (LoadsFor c.args.next) f (at t) (is_run (phase_of c.args.word).code) c.args.next)
+    ap (told c.args.history.now) (c.joins-in-Out.ensures z c.args.by (LoadsFor c.args.next) page owned log)
+    ∙ (λ t. told c.args.history.now
+    (poll_at z c.args.by v Phase (LoadsFor c.args.next) f (at t) (is_run (phase_of c.args.word).code) c.args.next))
 
 pub returns-else-runs : goal.returns-else-runs
 returns-else-runs c = λ page owned log.
@@ -34,5 +37,5 @@ returns-else-runs c = λ page owned log.
     let f = found c.args.word page in
     let at : Entering ≡ c.args.self.now.position = sym c.in-Entering.is ∙ ap (λ (q : Part). q.position) c.self.view_is in
     let no : false ≡ is_run (phase_of c.args.word).code = sym c.if-runs.false ∙ c.runs.ensures in
-    c.joins.ensures z c.args.by (LoadsFor c.args.next) page owned log
-    ∙ (λ t. poll_at z c.args.by v Phase (LoadsFor c.args.next) f (at t) (no t) c.args.next)
+    ap (told c.args.history.now) (c.joins.ensures z c.args.by (LoadsFor c.args.next) page owned log)
+    ∙ (λ t. told c.args.history.now (poll_at z c.args.by v Phase (LoadsFor c.args.next) f (at t) (no t) c.args.next))

@@ -4,6 +4,7 @@ use Rattle.kn_rule.specs.declared.positions.Position.TheVariants.{Between}
 use Rattle.kn_rule.specs.Steps.{found}
 use Rattle.kn_rule.specs.Outcomes.{header_for_call, header_read, is_wanted}
 use Rattle.kn_view.specs.Parts.{view_with}
+use Rattle.kn_view.specs.Told.{told}
 use Rattle.kn_view.proofs.Answering.{answered}
 use Rattle.kn_view.proofs.Wanted.{wanted_same}
 use Rattle.kn_view.proofs.known.Known.reads_header.Goals as goal
@@ -15,10 +16,10 @@ returns-in-None-kind_told c = λ z p a page same owned log.
     let f = found c.args.word page in
     let call = c.args.call in
     let part = record u { position = Between } in
-    answered z _ _ _ c.args.by call replies.NoField 0 part c.stands.ensures (c.answers.ensures z) owned log
-    ∙ sym (ap (header_for_call z c.args.by v p a f call) (sym c.field_of.ensures ∙ c.in-Some.is)
+    answered z _ _ _ _ c.args.by call replies.NoField 0 part c.stands.ensures (c.answers.ensures z) owned log
+    ∙ ap (told c.args.history.now) (sym (ap (header_for_call z c.args.by v p a f call) (sym c.field_of.ensures ∙ c.in-Some.is)
     ∙ ap (λ k. header_read z c.args.by v p a f call k (is_wanted z c.args.by v p a f k c.in-Some.wanted))
-    (sym (c.kind_told.ensures z same) ∙ c.in-None-kind_told.is))
+    (sym (c.kind_told.ensures z same) ∙ c.in-None-kind_told.is)))
 
 pub returns-else-eq : goal.returns-else-eq
 returns-else-eq c = λ z p a page same owned log.
@@ -28,9 +29,9 @@ returns-else-eq c = λ z p a page same owned log.
     let call = c.args.call in
     let kind = c.in-Some-kind_told.kind in
     let part = record u { position = Between } in
-    answered z _ _ _ c.args.by call replies.WrongKind 0 part c.stands-else-eq.ensures (c.answers-else-eq.ensures z) owned log
-    ∙ sym (ap (header_for_call z c.args.by v p a f call) (sym c.field_of.ensures ∙ c.in-Some.is)
+    answered z _ _ _ _ c.args.by call replies.WrongKind 0 part c.stands-else-eq.ensures (c.answers-else-eq.ensures z) owned log
+    ∙ ap (told c.args.history.now) (sym (ap (header_for_call z c.args.by v p a f call) (sym c.field_of.ensures ∙ c.in-Some.is)
     ∙ (ap (λ k. header_read z c.args.by v p a f call k (is_wanted z c.args.by v p a f k c.in-Some.wanted))
     (sym (c.kind_told.ensures z same) ∙ c.in-Some-kind_told.is)
     ∙ ap (header_read z c.args.by v p a f call (Some kind))
-    (sym (wanted_same z c.args.by v p a f kind c.in-Some.wanted) ∙ (sym c.eq.ensures ∙ c.if-eq.false))))
+    (sym (wanted_same z c.args.by v p a f kind c.in-Some.wanted) ∙ (sym c.eq.ensures ∙ c.if-eq.false)))))

@@ -13,5 +13,5 @@ returns c = λ z p f few owned log.
     c.joined-self-inside.ensures ∙ ap (λ (q : Part). joined_by (phase_of c.args.word) q.work) kept in
     λ t. record {
       view = view_with z (record (kept t) { work = works t }) owned log;
-      says = c.pause_in.ensures z v p (Stores c.args.word) f t;
+      history = c.tells_pause.ensures z v p (Stores c.args.word) f t;
     }
