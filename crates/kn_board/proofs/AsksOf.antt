@@ -28,11 +28,11 @@ use Rattle.kn_rule.specs.declared.parts.Taken.{Taken}
 use Rattle.kn_rule.specs.Decoding.{frame_of}
 use Rattle.kn_rule.specs.Places.{Within}
 use Rattle.kn_rule.specs.Views.{View, State, Open, owns, flattened}
-use Rattle.kn_rule.specs.Requests.{birth_of, AreFree}
+use Rattle.kn_rule.specs.Requests.{birth_of, AreFree, InArea}
 use Rattle.kn_rule.specs.Steps.{does, callers, frame_in}
 use Rattle.kn_rule.specs.Allowed.{MayBegin as MayBeginCall}
 use Rattle.kn_rule.specs.Allowed.{MayBe, MayEnterFor, MayPollAt, MayWriteAt, MayLoadAt, MayReadGlobalAt, MayPoll, MayStoreState, MayWrite, MayLoadBody}
-use Rattle.kn_rule.specs.Allowed.{MayReadGlobal, MayBirth, MayLook, MayClaim}
+use Rattle.kn_rule.specs.Allowed.{MayReadGlobal, MayBirth, Searches, MayLook, MayClaim}
 use Rattle.kn_rule.specs.Allowed.{MayGiveBack, MayClear, MayClearFor, MayStorePhase, MayMake}
 use Rattle.kn_rule.specs.MarkSteps.{IsMarker, MayMoveSet, MayLoadRoot, MayMoveMark, MayLoadCell}
 use Rattle.kn_rule.specs.HistoryClauses.{IsRightCall}
@@ -42,12 +42,12 @@ use Rattle.kn_keep_heap.proofs.Values.{below_sixteen}
 use Rattle.kn_keep_marking.proofs.Keeps.{keeps}
 use Rattle.kn_keep_marking.proofs.Withins.{steps_lie_within}
 use Rattle.kn_keep_heap.proofs.ReadLaws.{ranges}
-use Rattle.kn_view.specs.Parts.{Part, view_with, MayBegin, IsReadable, IsBirthLocal}
+use Rattle.kn_view.specs.Parts.{Part, view_with, MayBegin, IsReadable, IsBirthLocal, IsSearched}
 use Rattle.kn_view.specs.Shares.{MayOwe, IsChildNear, IsRootRead, IsCellRead}
 use Rattle.kn_holds.specs.Holds.{Hold}
 use Rattle.kn_board.specs.Parts.{own_of}
 use Rattle.kn_board.specs.Stored.{HoldsFit, hold_at}
-use Rattle.kn_board.specs.Asks.{Asks, AsksPoll, AsksState, AsksWrite, AsksGlobal, AsksBirth, AsksFrame, AsksClaim, AsksHome, AsksClear, AsksNext}
+use Rattle.kn_board.specs.Asks.{Asks, AsksPoll, AsksState, AsksWrite, AsksGlobal, AsksBirth, AsksLook, AsksClaim, AsksHome, AsksClear, AsksNext}
 use Rattle.kn_board.specs.Asks.{AsksPhase, AsksSet, AsksMark}
 use Rattle.kn_board.proofs.ShareFits.{owes_little, child_near, root_read, field_read}
 use Rattle.kn_board.proofs.ClaimFits.{usable_free}
@@ -147,8 +147,14 @@ module _ (z : Ground) (good : IsGoodGround z) (s : State) (rule : Rule z s) (by 
           (births_at m.call m.birth m.is_birth (ranges z s by m.thread g rule.1 m.call (position_is ∙ m.is_call)));
     }
 
-    look : MayLook z by v here p a → AsksFrame z by part p a n
-    look m = record { frame = m.frame; place = m.place; near = m.search.near; call = right_call m.search.thread }
+    searched : (call : Call) (class k : ℕ) → Searches z by v here call class k → IsSearched z k part.position
+    searched call class k m = subst (λ q. IsSearched z k q) (sym m.is_call) (subst (λ c. InArea z.sizes k c) m.is_class m.in_area)
+
+    look : MayLook z by v here p a → AsksLook z by part p a n
+    look m = record {
+      at = record { frame = m.frame; place = m.place; near = m.search.near; call = right_call m.search.thread };
+      area = searched m.call m.class m.frame m.search;
+    }
 
     -- a word of a phase that the rule allows is small
     phase : MayStorePhase z by v here p a → AsksPhase z by part p a n
@@ -226,6 +232,7 @@ module _ (z : Ground) (good : IsGoodGround z) (s : State) (rule : Rule z s) (by 
             new = _;
             act = m.word;
             at = record { frame = m.frame; place = m.place; near = near; call = right_call m.search.thread };
+            area = searched m.call m.class m.frame m.search;
             lies = λ won.
                 let h = rule.1.stands.housed.each k near (free won) in
                 (h.0, ap (λ q. slot (frame_in q)) m.place ∙ (pages_are k near (free won) ∙ h.1));

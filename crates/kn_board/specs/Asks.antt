@@ -19,7 +19,7 @@ use Rattle.kn_rule.specs.FrameSpans.{frame_span}
 use Rattle.kn_rule.specs.Requests.{words_asked, AreFree}
 use Rattle.kn_rule.specs.Steps.{callers}
 use Rattle.kn_rule.specs.HistoryClauses.{IsRightCall}
-use Rattle.kn_view.specs.Parts.{Part, MayBegin, IsReadable, IsBirthLocal}
+use Rattle.kn_view.specs.Parts.{Part, MayBegin, IsReadable, IsBirthLocal, IsSearched}
 use Rattle.kn_view.specs.Shares.{MayOwe, IsChildNear, IsRootRead, IsCellRead}
 use Rattle.kn_holds.specs.Holds.{Hold}
 use Rattle.kn_board.specs.Parts.{own_of}
@@ -63,6 +63,11 @@ module _ (z : Ground) (by : ℕ) (part : Part) (p : Place) (a : Action) (n : ℕ
     pub near : frame < frame_count z.sizes
     pub call : IsRightCall z part.position
 
+  -- a look at a frame
+  pub record AsksLook : Type 0 where
+    pub at : AsksFrame
+    pub area : IsSearched z at.frame part.position
+
   pub record AsksPhase : Type 0 where
     pub value : ℕ
     pub act : a ≡ Stores value
@@ -95,6 +100,7 @@ module _ (z : Ground) (by : ℕ) (part : Part) (p : Place) (a : Action) (n : ℕ
       pub new : ℕ
       pub act : a ≡ Swaps old new
       pub at : AsksFrame
+      pub area : IsSearched z at.frame part.position
       pub lies : n ≡ old → (page : FrameView) × (slot ≡ Some page)
       pub nobody : n ≡ old → (c : ℕ) → c < callers z.sizes → own_of c (hold_at holds at.frame) ≡ None
 
@@ -134,7 +140,7 @@ module _ (z : Ground) (by : ℕ) (part : Part) (p : Place) (a : Action) (n : ℕ
     Asks slot K6 = AsksGlobal
     Asks slot K7 = Unit {0}
     Asks slot K8 = AsksBirth
-    Asks slot K9 = AsksFrame
+    Asks slot K9 = AsksLook
     Asks slot K10 = AsksClaim slot
     Asks slot K11 = AsksHome
     Asks slot K12 = AsksClear

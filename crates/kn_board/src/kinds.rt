@@ -8,7 +8,7 @@ ghost use Rattle.kn_rule.specs.declared.steps.Kind.TheVariants.{K17, K18, K19, K
 ghost use Rattle.kn_rule.specs.Outcomes.{outcome};
 ghost use Rattle.kn_rule.specs.Steps.{found};
 ghost use Rattle.kn_view.specs.Parts.{IsReadable, ground_of};
-ghost use Rattle.kn_board.specs.Asks.{AsksBirth, AsksFrame, AsksGlobal, AsksLoadState, AsksPhase, AsksPoll, AsksState, AsksWrite};
+ghost use Rattle.kn_board.specs.Asks.{AsksBirth, AsksGlobal, AsksLoadState, AsksLook, AsksPhase, AsksPoll, AsksState, AsksWrite};
 ghost use Rattle.kn_board.specs.Asks.{AsksGray, AsksMark, AsksSet};
 ghost use Rattle.kn_view.specs.Shares.{IsCellRead, IsRootRead, MayOwe};
 ghost use Rattle.kn_view.specs.Told.{IsShort, Makes, Says};
@@ -157,7 +157,7 @@ pub fn looks(
 )
     requires good { IsGoodGround (ground_of sizes.now layouts.now) }
     requires wide { IsWide sizes.now known.old }
-    requires asks { AsksFrame (ground_of sizes.now layouts.now) step.by known.old step.place step.act step.word }
+    requires asks { AsksLook (ground_of sizes.now layouts.now) step.by known.old step.place step.act step.word }
     requires short { IsShort history.old }
     ensures { let z = ground_of sizes.now layouts.now in (page : FrameView) →
         Says z known.old known.new history.old history.new (λ v. outcome z step.by v step.place step.act (found step.word page) K9) }

@@ -11,30 +11,31 @@ use std::test::Fail;
 const SPELLED: &str = "ok full nil yes no ref null nofield kind int 18446744073709551615 \
     taken vacant none count 4095 top zero already epoch 3 ";
 
+const REPLIES: [Reply; 18] = [
+    Reply::Ok,
+    Reply::Full,
+    Reply::Nil,
+    Reply::Yes,
+    Reply::No,
+    Reply::Ref,
+    Reply::Null,
+    Reply::NoField,
+    Reply::WrongKind,
+    Reply::Int(18_446_744_073_709_551_615),
+    Reply::Taken,
+    Reply::Vacant,
+    Reply::Nothing,
+    Reply::Count(4095),
+    Reply::Top,
+    Reply::Zero,
+    Reply::Already,
+    Reply::Epoch(3),
+];
+
 #[test]
 fn replies_are_spelled(rt: HostRuntime) -> Result<(), Fail> {
-    let replies = [
-        Reply::Ok,
-        Reply::Full,
-        Reply::Nil,
-        Reply::Yes,
-        Reply::No,
-        Reply::Ref,
-        Reply::Null,
-        Reply::NoField,
-        Reply::WrongKind,
-        Reply::Int(18_446_744_073_709_551_615),
-        Reply::Taken,
-        Reply::Vacant,
-        Reply::Nothing,
-        Reply::Count(4095),
-        Reply::Top,
-        Reply::Zero,
-        Reply::Already,
-        Reply::Epoch(3),
-    ];
     let mut text = String::new(rt.alloc());
-    for reply in replies {
+    for reply in &REPLIES {
         write!(text, "{reply} ")?;
     }
     assert!(rt; text.as_str() == SPELLED);
@@ -251,8 +252,8 @@ fn replays(
 
 #[test]
 fn histories_are_replayed(rt: HostRuntime) -> Result<(), Fail> {
-    assert!(rt; replays(rt.alloc(), &CALLS, 3, 0)?);
-    assert!(rt; replays(rt.alloc(), &COLLECTIONS, 4, 2)?);
+    let calls = replays(rt.alloc(), &CALLS, 3, 0)?;
+    assert!(rt; calls && replays(rt.alloc(), &COLLECTIONS, 4, 2)?);
     Ok(())
 }
 
@@ -300,40 +301,42 @@ const ROOTS: [(u8, u32, Event, bool); 6] = [
     (0, 0, Event::Call(Call::Retain(1), Reply::Count(1), 0), true),
 ];
 
-/// The graph of ten objects with these pointers and roots, and whether each entry was legal. An error
-/// is want of memory.
-fn graph_of_ten(alloc: Global) -> Result<(Graph, bool), AllocError> {
-    let mut graph = open(alloc)?;
+/// Makes ten objects with these pointers and roots in an empty graph, and answers whether each entry was
+/// legal. An error is want of memory.
+fn make_ten(graph: &mut Graph) -> Result<bool, AllocError> {
     let mut good = true;
     for n in 0..10 {
         let address = 1 + 3 * u32::from(n);
-        good &= is_legal_call(&mut graph, Call::NewArray(n, 2, 2), Reply::Ok, address)?;
+        good &= is_legal_call(graph, Call::NewArray(n, 2, 2), Reply::Ok, address)?;
     }
-    for (s, field, r) in POINTERS {
-        good &= is_legal_call(&mut graph, Call::Set(s, field, r), Reply::Ok, 0)?;
+    for (s, field, r) in &POINTERS {
+        good &= is_legal_call(graph, Call::Set(*s, *field, *r), Reply::Ok, 0)?;
     }
-    good &= replay(&mut graph, &ROOTS)?;
+    good &= replay(graph, &ROOTS)?;
     for n in 0..10 {
-        good &= is_legal_call(&mut graph, Call::Clear(n), Reply::Ok, 0)?;
+        good &= is_legal_call(graph, Call::Clear(n), Reply::Ok, 0)?;
     }
-    Ok((graph, good))
+    Ok(good)
 }
 
-/// The marks of the reachable objects. An error is want of memory.
-fn marks_of(alloc: Global, graph: &mut Graph) -> Result<Vec<bool>, AllocError> {
-    let mut marks = Vec::new(alloc);
-    marks.resize(graph.objects() as usize, true)?;
+/// Whether an empty graph, in which the ten objects are made, marks those that are reachable. An error is
+/// want of memory.
+fn ten_are_marked(alloc: Global, graph: &mut Graph) -> Result<bool, AllocError> {
+    let good = make_ten(graph)?;
+    let mut marks = vec![in alloc; true; graph.objects() as usize]?;
     graph.reachable(&mut marks);
-    Ok(marks)
+    Ok(good && marks.as_slice() == REACHABLE.as_slice())
 }
+
+/// Which of the ten objects are reachable.
+const REACHABLE: [bool; 10] = [
+    true, true, true, false, false, false, false, true, true, false,
+];
 
 #[test]
 fn what_is_reachable_is_marked(rt: HostRuntime) -> Result<(), Fail> {
-    let (mut graph, good) = graph_of_ten(rt.alloc())?;
+    let mut graph = open(rt.alloc())?;
+    let good = ten_are_marked(rt.alloc(), &mut graph)?;
     assert!(rt; good);
-    let reachable = [
-        true, true, true, false, false, false, false, true, true, false,
-    ];
-    assert!(rt; marks_of(rt.alloc(), &mut graph)?.as_slice() == reachable.as_slice());
     Ok(())
 }

@@ -73,17 +73,36 @@ fn a_source_fails_the_calls_told(rt: HostRuntime) -> Result<(), Fail> {
     Ok(())
 }
 
-// What a sink that takes pieces of 8 holds behind a write of twenty bytes, and whether that failed.
-fn twenty_to(alloc: Global, room: u32, failing: &[u32]) -> Result<(Vec<u8>, bool), AllocError> {
-    let mut sink = MemSink::open(alloc, room, 8, failing)?;
+// Whether a sink with this room, which takes pieces of 8, holds so many bytes behind a write of twenty,
+// and whether that fails where it is to.
+fn takes_twenty(alloc: Global, row: (u32, u32, usize, bool)) -> Result<bool, AllocError> {
+    let (room, failing, held, fails) = row;
+    let mut sink = MemSink::open(alloc, room, 8, &[failing])?;
     let failed = write_all(&mut sink, TWENTY).is_err();
-    Ok((Vec::from_slice(alloc, sink.held())?, failed))
+    let bytes = sink.held();
+    Ok(failed == fails && bytes.len() == held && TWENTY.starts_with(bytes))
+}
+
+// Whether a sink with a room of 4, whose first call fails, goes on.
+fn goes_on(alloc: Global) -> Result<bool, AllocError> {
+    let mut sink = MemSink::open(alloc, 4, 8, &[1])?;
+    let calls: [(&[u8], Result<usize, Failed>); 4] = [
+        (b"ab", Err(Failed)),
+        (b"cdefg", Ok(4)),
+        (b"", Ok(0)),
+        (b"h", Err(Failed)),
+    ];
+    let mut is_so = true;
+    for (piece, answer) in calls {
+        is_so = sink.write(piece) == answer && is_so;
+    }
+    Ok(is_so && sink.flush().is_ok() && sink.held() == b"cdef".as_slice())
 }
 
 #[test]
 fn a_sink_fails_the_calls_told(rt: HostRuntime) -> Result<(), Fail> {
     // Three calls of `write`, and one of `flush`.
-    let rows: [(u32, u32, usize, bool); 6] = [
+    let rows = [
         (20, 9, 20, false),
         (20, 2, 8, true),
         (20, 4, 20, true),
@@ -91,25 +110,10 @@ fn a_sink_fails_the_calls_told(rt: HostRuntime) -> Result<(), Fail> {
         (10, 9, 10, true),
         (0, 9, 0, true),
     ];
-    for (room, failing, held, fails) in rows {
-        let (bytes, failed) = twenty_to(rt.alloc(), room, &[failing])?;
-        assert!(rt;
-            failed == fails && bytes.len() == held && TWENTY.starts_with(&bytes),
-            "room {room}, failing {failing}"
-        );
+    for row in rows {
+        assert!(rt; takes_twenty(rt.alloc(), row)?);
     }
-    // A sink that failed goes on.
-    let mut sink = MemSink::open(rt.alloc(), 4, 8, &[1])?;
-    let calls: [(&[u8], Result<usize, Failed>); 4] = [
-        (b"ab", Err(Failed)),
-        (b"cdefg", Ok(4)),
-        (b"", Ok(0)),
-        (b"h", Err(Failed)),
-    ];
-    for (piece, answer) in calls {
-        assert!(rt; sink.write(piece) == answer);
-    }
-    assert!(rt; sink.flush() == Ok(()) && sink.held() == b"cdef".as_slice());
+    assert!(rt; goes_on(rt.alloc())?);
     Ok(())
 }
 
@@ -137,7 +141,7 @@ fn a_read_to_the_end_keeps_to_its_limit(rt: HostRuntime) -> Result<(), Fail> {
         (65_535, None),
     ];
     for (limit, line) in rows {
-        assert!(rt; ends_at(rt.alloc(), limit, line)?, "limit {limit}");
+        assert!(rt; ends_at(rt.alloc(), limit, line)?);
     }
     Ok(())
 }
@@ -151,31 +155,51 @@ fn comes<S: Source>(alloc: Global, source: &mut S, text: Option<&[u8]>) -> bool 
     }
 }
 
+// Whether a source in memory that failed goes on.
+fn memory_comes(alloc: Global) -> Result<bool, AllocError> {
+    let mut source = MemSource::open(alloc, TWENTY, 8, &[2])?;
+    let failed = comes(alloc, &mut source, None);
+    Ok(failed && comes(alloc, &mut source, Some(b"89abcdefghij")))
+}
+
+// Whether a source of std that failed goes on.
+fn reader_comes(alloc: Global) -> bool {
+    let mut source = StdSource::new(FailsOnce { calls: 0 });
+    let failed = comes(alloc, &mut source, None);
+    failed && comes(alloc, &mut source, Some(b"3\0\0\0"))
+}
+
 #[test]
 fn sources_are_read_to_the_end(rt: HostRuntime) -> Result<(), Fail> {
     let alloc = rt.alloc();
-    let mut memory = MemSource::open(alloc, TWENTY, 8, &[2])?;
-    let mut once = StdSource::new(FailsOnce { calls: 0 });
-    // A source that failed goes on.
-    assert!(rt; comes(alloc, &mut memory, None) && comes(alloc, &mut once, None));
-    assert!(rt; comes(alloc, &mut memory, Some(b"89abcdefghij")));
-    assert!(rt; comes(alloc, &mut once, Some(b"3\0\0\0")));
     let mut safe = SafeSource::open(alloc, TWENTY, 7)?;
-    let mut slice = StdSource::new(TWENTY);
-    assert!(rt; comes(alloc, &mut safe, Some(TWENTY)) && comes(alloc, &mut slice, Some(TWENTY)));
+    let all = comes(alloc, &mut safe, Some(TWENTY))
+        && comes(alloc, &mut StdSource::new(TWENTY), Some(TWENTY));
+    assert!(rt; all && memory_comes(alloc)? && reader_comes(alloc));
     Ok(())
+}
+
+// Whether a sink that counts its bytes, and one of std, take twenty.
+fn twenty_are_taken(alloc: Global) -> bool {
+    let mut safe = SafeSink::open(7);
+    let mut written = Vec::new(alloc);
+    let ok = write_all(&mut safe, TWENTY).is_ok()
+        && write_all(&mut StdSink::new(&mut written), TWENTY).is_ok();
+    ok && safe.taken() == 20 && written.as_slice() == TWENTY
+}
+
+// Whether a sink of std fails where its writer takes none, and can't be flushed.
+fn three_are_taken() -> bool {
+    let mut three = StdSink::new(TakesThree { left: 3 });
+    three.flush() == Err(Failed)
+        && three.write(b"ab") == Ok(2)
+        && write_all(&mut three, b"cd") == Err(Failed)
+        && three.write(b"") == Ok(0)
 }
 
 #[test]
 fn sinks_are_written_to(rt: HostRuntime) -> Result<(), Fail> {
-    let mut safe = SafeSink::open(7);
-    assert!(rt; write_all(&mut safe, TWENTY).is_ok() && safe.taken() == 20);
-    let mut written = Vec::new(rt.alloc());
-    let ok = write_all(&mut StdSink::new(&mut written), TWENTY).is_ok();
-    assert!(rt; ok && written.as_slice() == TWENTY);
-    let mut three = StdSink::new(TakesThree { left: 3 });
-    assert!(rt; three.flush() == Err(Failed) && three.write(b"ab") == Ok(2));
-    assert!(rt; write_all(&mut three, b"cd") == Err(Failed) && three.write(b"") == Ok(0));
+    assert!(rt; twenty_are_taken(rt.alloc()) && three_are_taken());
     assert!(rt; format!(in rt.alloc(); "{Failed}")?.as_str() == "the device failed");
     Ok(())
 }

@@ -1,5 +1,5 @@
 -- The turn that the next step of a marker makes.
-use Rattle.std.proofs.Common.{◌≡◌, ◌↔◌, inl, inr, ℕ, ◌*◌, ◌≤◌, Bool, true, false, cond, eqb, Option}
+use Rattle.std.proofs.Common.{◌≡◌, ◌↔◌, inl, inr, ℕ, ◌*◌, ◌≤◌, Bool, true, false, cond, eqb, Option, Some}
 use Rattle.std.proofs.Common.{nat_lt, refl, sym, ap, ◌∙◌, subst}
 use Rattle.std.proofs.Common.{eq-eqb}
 use Rattle.std.proofs.lemmas.Bool.{eqb-true, eqb-false, ltb-false, le-ltb}
@@ -8,11 +8,17 @@ use Rattle.kn_base.specs.declared.places.Place.{Place}
 use Rattle.kn_base.specs.declared.places.Place.TheVariants.{Pending, RootSet, Side}
 use Rattle.kn_graph.specs.Ground.{Ground}
 use Rattle.kn_marking.specs.declared.work.Child.TheVariants as children
+use Rattle.kn_marking.specs.declared.work.Doing.{Doing}
+use Rattle.kn_marking.specs.declared.work.Doing.TheVariants as doings
 use Rattle.kn_marking.specs.Words.{gray}
+use Rattle.kn_rule.specs.declared.steps.Action.{Action}
+use Rattle.kn_rule.specs.declared.steps.Kind.{Kind}
 use Rattle.kn_rule.specs.declared.steps.Kind.TheVariants.{K16, K17, K20}
 use Rattle.kn_rule.specs.declared.steps.Action.TheVariants.{Loads}
+use Rattle.kn_layout.specs.declared.layouts.FieldKind.TheVariants.{Ref as of_ref}
+use Rattle.kn_rule.specs.Requests.{told_kind}
 use Rattle.kn_rule.specs.Steps.{Found, Step, does}
-use Rattle.kn_steps.specs.Made.{Made, Stand}
+use Rattle.kn_steps.specs.Made.{Allowed, Made, Stand}
 use Rattle.kn_steps.specs.Turns.{OneStep}
 use Rattle.kn_mark.specs.declared.next.Next.{Next}
 use Rattle.kn_mark.specs.declared.next.Next.TheVariants.{Gives, Meets, Adds, Grays, LoadsRoot, Finishes, LoadsHeader, LoadsField, Blackens}
@@ -20,27 +26,11 @@ use Rattle.kn_mark.specs.declared.next.Next.TheVariants.{Claims, LooksAt, TakesU
 use Rattle.kn_mark.specs.declared.turn.MarkTurn.{MarkTurn}
 use Rattle.kn_mark.specs.declared.turn.MarkTurn.TheVariants.{Moved, Idle, Over}
 use Rattle.kn_mark.specs.Kept.{Kept, LiesInHeap, free_share}
-use Rattle.kn_mark.specs.Steps.{IsNext, IsPlain, NamesNear, Tells, answer_behind, behind, step_of}
-use Rattle.kn_mark.specs.Agree.{Agrees, HasRest}
+use Rattle.kn_mark.specs.Steps.{IsNext, NamesNear, Tells, answer_behind, behind, step_of}
+use Rattle.kn_mark.specs.Agree.{Agrees, HasRest, IsAtRef}
 use Rattle.kn_mark.specs.Turns.{FoundNothing, Goes}
+use Rattle.kn_mark.proofs.Allowing.{may}
 use Rattle.kn_mark.proofs.Agreeing.{agrees_behind, names_near, only_marked, view_is}
-
--- a marker makes no other actions
-pub plain_step : (k : Kept) (n : Next) → IsPlain (step_of k n).act
-plain_step k Gives = tt
-plain_step k (Meets y) = tt
-plain_step k (Adds y v) = tt
-plain_step k (Grays y v) = tt
-plain_step k (LoadsRoot j i) = tt
-plain_step k (Finishes j) = tt
-plain_step k (LoadsHeader x) = tt
-plain_step k (LoadsField x h i) = tt
-plain_step k (Blackens x) = tt
-plain_step k (Claims j v) = tt
-plain_step k (LooksAt j) = tt
-plain_step k (TakesUp x) = tt
-plain_step k Counts = tt
-plain_step k (Searches n) = tt
 
 -- the word told does for the word found
 module _ (z : Ground) (k : Kept) where
@@ -203,6 +193,12 @@ module _ (k : Kept) (w : ℕ) where
   counts_over (TakesUp x) e = absurd (cc)
   counts_over (Searches n) e = absurd (idle_not_over (eqb w (gray k.work.epoch)) (Side k.cursor) e)
 
+same_ref : (a z : Ground) → a.layouts ≡ z.layouts → (d : Doing) → IsAtRef a d → IsAtRef z d
+same_ref a z e doings.Free h = tt
+same_ref a z e (doings.Set j i) h = tt
+same_ref a z e (doings.Header x) h = tt
+same_ref a z e (doings.Cell x hd i) h = λ l. subst (λ y. told_kind (record z { layouts = y }) hd i ≡ Some of_ref) e (h l)
+
 -- at the load of the count nothing is under way
 at_rest : (k : Kept) → IsNext k Counts → k.work ≡ free_share k.work.epoch
 at_rest k h =
@@ -222,7 +218,7 @@ module _ {T : Type 0} (stand : T → Stand) (here : T → ℕ → Bool) (did : T
           over = ap (λ (b : Stand). b.view.collecting.over) e ∙ ap (λ b. cond b true (stand s).view.collecting.over) (eq-eqb f.word 0 none);
         }
 
-    pub goes : LiesInHeap k → (n : Next) → IsNext k n → (f : Found) → Made (stand s) (here s) (step_of k n) f (stand s') (here s') →
+    goes : LiesInHeap k → (n : Next) → IsNext k n → (f : Found) → Made (stand s) (here s) (step_of k n) f (stand s') (here s') →
         did s (step_of k n) f s' → (k' : Kept) → k' ≡ behind (stand s).heap k n f.word → (reply : MarkTurn) →
         reply ≡ answer_behind k n f.word → Goes stand here did moved k s s' k' reply
     goes l n h f made kept k' after reply answer = record {
@@ -241,3 +237,31 @@ module _ {T : Type 0} (stand : T → Stand) (here : T → ℕ → Bool) (did : T
         rest r =
             rests f (subst (IsNext k) r.0 h)
             (subst (λ m. Made (stand s) (here s) (step_of k m) f (stand s') (here s')) r.0 made) r.1
+
+    -- the field that it reached holds a reference in any heap of the same layouts
+    pub at_ref_told : (z : Ground) → z.layouts ≡ (stand s).heap.layouts → IsAtRef z k.work.doing
+    at_ref_told z e = same_ref (stand s).heap z (sym e) k.work.doing g.at_ref
+
+    -- so it is where its step was made by its parts, and told the word w
+    module _ (n : Next) (h : IsNext k n) (kind : Kind) (place : Place) (act : Action) (o : kind ≡ (step_of k n).kind)
+        (p : place ≡ (step_of k n).place) (q : (step_of k n).act ≡ act) where
+      step_is : step_of k n ≡ does kind place act
+      step_is = λ t. record { kind = sym o t; place = sym p t; act = q t }
+
+      pub may_make : LiesInHeap k → Allowed (stand s) (here s) (does kind place act)
+      may_make l = subst (λ d. Allowed (stand s) (here s) d) step_is (may g (here s) n h l)
+
+      module _ (f : Found) (w : ℕ) (t : Tells act f.word w) (made : Made (stand s) (here s) (does kind place act) f (stand s') (here s')) where
+        made_so : Made (stand s) (here s) (step_of k n) f (stand s') (here s')
+        made_so = subst (λ d. Made (stand s) (here s) d f (stand s') (here s')) (sym step_is) made
+
+        all_same : Same (stand s).heap k n f.word w
+        all_same = same_told (stand s).heap k n f.word w (subst (λ a. Tells a f.word w) (sym q) t)
+
+        pub near_told : NamesNear k n w
+        near_told = all_same.2 (names_near g n h made_so)
+
+        pub goes_told : LiesInHeap k → did s (does kind place act) f s' → (k' : Kept) → k' ≡ behind (stand s).heap k n w →
+            (reply : MarkTurn) → reply ≡ answer_behind k n w → Goes stand here did moved k s s' k' reply
+        goes_told l kept k' after reply answer =
+            goes l n h f made_so (subst (λ d. did s d f s') (sym step_is) kept) k' (after ∙ all_same.0) reply (answer ∙ all_same.1)

@@ -11,7 +11,7 @@ use Rattle.kn_marking.specs.Words.{gray, scanned, black, claimed, finished}
 use Rattle.kn_marking.specs.Shares.{looked, took, missed, rested, seen, reserved, passed_child, lost_child, paid, began, opened}
 use Rattle.kn_rule.specs.declared.steps.Action.{Action}
 use Rattle.kn_rule.specs.declared.steps.Kind.TheVariants.{K16, K17, K18, K19, K20, K21, K22, K23, K24}
-use Rattle.kn_rule.specs.declared.steps.Action.TheVariants.{Loads, LoadsFor, Stores, Swaps, Adds as AddsTo, Subtracts, Raises}
+use Rattle.kn_rule.specs.declared.steps.Action.TheVariants.{Loads, Stores, Swaps, Adds as AddsTo, Subtracts}
 use Rattle.kn_rule.specs.Decoding.{header_of}
 use Rattle.kn_rule.specs.MarkedHeap.{cell_limit, set_words, set_place, set_holds, object_in, next_ref, place_behind}
 use Rattle.kn_rule.specs.MarkSteps.{arrived}
@@ -153,12 +153,6 @@ abbrev pub NamesNear : Kept → Next → ℕ → Type 0
 NamesNear k (LoadsRoot j i) w = (y : ℕ) → set_holds k.sizes j w ≡ Some y → y < cell_limit k.sizes
 NamesNear k (LoadsField x h i) w = (y : ℕ) → object_in w ≡ Some y → y < cell_limit k.sizes
 NamesNear k _ w = Unit {0}
-
--- a marker makes no other actions
-abbrev pub IsPlain : Action → Type 0
-IsPlain (LoadsFor next) = ⊥
-IsPlain (Raises n) = ⊥
-IsPlain _ = Unit {0}
 
 -- a step tells the word that it found, but for a store
 abbrev pub Tells : Action → ℕ → ℕ → Type 0

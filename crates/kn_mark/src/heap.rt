@@ -11,6 +11,7 @@ const LAYOUT: u64 = 1 << 48;
 const LENGTH: u64 = 1 << 24;
 
 /// The end of the small and the large frames, in which objects lie.
+#[inline(always)]
 pub(crate) fn cell_limit(sizes: &Sizes) -> u32
     requires { IsGood sizes.now }
     ensures { result ≡ MarkedHeap.cell_limit sizes.now }
@@ -19,6 +20,7 @@ pub(crate) fn cell_limit(sizes: &Sizes) -> u32
 }
 
 /// How many words a root set has.
+#[inline(always)]
 pub(crate) fn set_words(sizes: &Sizes, set: u8) -> u32
     requires { IsGood sizes.now }
     ensures { result ≡ MarkedHeap.set_words sizes.now set }
@@ -33,6 +35,7 @@ pub(crate) fn set_words(sizes: &Sizes, set: u8) -> u32
 }
 
 /// The place of a word of a root set.
+#[inline(always)]
 pub(crate) fn set_place(sizes: &Sizes, set: u8, word: u32) -> Place
     requires good { IsGood sizes.now }
     requires near { word < MarkedHeap.set_words sizes.now set }
@@ -48,6 +51,7 @@ pub(crate) fn set_place(sizes: &Sizes, set: u8, word: u32) -> Place
 }
 
 // The number of the name that is a word of its root set.
+#[inline(always)]
 fn name_in_set(sizes: &Sizes, word: u32) -> u8
     requires good { IsGood sizes.now }
     requires near { word < sizes.now.stable + sizes.now.back }
@@ -61,6 +65,7 @@ fn name_in_set(sizes: &Sizes, word: u32) -> u8
 }
 
 /// How many fields a header tells of.
+#[inline(always)]
 pub(crate) fn fields_told(header: u64) -> u32
     ensures value { result ≡ (header_of header).length }
     ensures few { result < 2 ^ 24 }

@@ -8,6 +8,7 @@ use crate::next::Next;
 use arrayvec::ArrayVec;
 
 /// The last hint.
+#[inline(always)]
 pub(crate) fn last_of(hints: &[u32]) -> Option<u32>
     ensures value { result ≡ Steps.last_of hints.now }
     ensures none { result ≡ None → hints.now ≡ [] }
@@ -20,6 +21,7 @@ pub(crate) fn last_of(hints: &[u32]) -> Option<u32>
 }
 
 /// The hints behind a step that found a word.
+#[inline(always)]
 pub(crate) fn learn_hints(
     hints: &mut ArrayVec<u32, 64>,
     next: Next,
@@ -49,6 +51,7 @@ pub(crate) fn learn_hints(
 }
 
 // One hint more, where there is room.
+#[inline(always)]
 fn keep_hint(hints: &mut ArrayVec<u32, 64>, object: u32)
     ensures { hints.new.items ≡ Steps.with_hint hints.old.items object }
 {

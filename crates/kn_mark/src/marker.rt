@@ -2,8 +2,7 @@
 ghost use Rattle.std.specs.Prelude.{◌≡◌, ℕ, ◌+◌, ◌<◌};
 ghost use Rattle.kn_base.specs.Sizes.{IsGood};
 ghost use Rattle.kn_graph.specs.Ground.{Ground};
-ghost use Rattle.kn_rule.specs.Steps.{Step, Found, does, found};
-ghost use Rattle.kn_steps.specs.Made.{Stand, Allowed, Made};
+ghost use Rattle.kn_steps.specs.Made.{Stand};
 ghost use Rattle.kn_steps.specs.Turns.{OneTurn};
 ghost use Rattle.kn_mark.specs.declared.stage.Stage.TheVariants as stages;
 ghost use Rattle.kn_mark.specs.declared.turn.MarkTurn.TheVariants.{Over};
@@ -16,7 +15,6 @@ ghost use Rattle.arrayvec.specs.ArrayVec.{array_vec_len};
 
 use crate::heap::{cell_limit, fields_told, set_place, set_words};
 use crate::hints::{last_of, learn_hints};
-use crate::make::make;
 use crate::next::Next;
 use crate::stage::Stage;
 use crate::turn::MarkTurn;
@@ -99,21 +97,66 @@ impl Marker {
         self.goes_on(steps, layouts)
     }
 
+    // A call for each variant, so that the kind of its step is known where it is compiled.
+    #[inline(never)]
     fn goes_on<P: Home, T: Steps<P>>(&mut self, steps: &mut T, layouts: &[Layout]) -> MarkTurn
         requires agrees { Agrees self.old (T.stand steps.old) }
         requires layouts { (T.stand steps.old).heap.layouts ≡ layouts.now }
         ensures { Goes T.stand T.here T.did T.moved self.old steps.old steps.new self.new result }
     {
-        let next = self.next();
-        let (kind, place, act) = self.step(next);
-        let word = make(steps, kind, place, act);
-        self.learns(layouts, next, word)
+        let epoch = 4 * u64::from(self.work.epoch);
+        match self.next() {
+            Next::Gives => self.gives(steps, layouts, Next::Gives),
+            Next::Meets(child) => self.loads(steps, layouts, Next::Meets(child)),
+            Next::Adds(child, mark) => self.adds(steps, layouts, Next::Adds(child, mark)),
+            Next::Grays(child, mark) => self.swaps(
+                steps,
+                layouts,
+                Next::Grays(child, mark),
+                mark,
+                epoch + 1,
+            ),
+            Next::LoadsRoot(set, word) => self.loads(steps, layouts, Next::LoadsRoot(set, word)),
+            Next::Finishes(set) => self.stores(steps, layouts, Next::Finishes(set), epoch + 3),
+            Next::LoadsHeader(cell) => self.loads(steps, layouts, Next::LoadsHeader(cell)),
+            Next::LoadsField(cell, header, field) => self.loads(
+                steps,
+                layouts,
+                Next::LoadsField(cell, header, field),
+            ),
+            Next::Blackens(cell) => self.stores(steps, layouts, Next::Blackens(cell), epoch + 3),
+            Next::Claims(set, word) => self.swaps(
+                steps,
+                layouts,
+                Next::Claims(set, word),
+                word,
+                epoch + 2,
+            ),
+            Next::LooksAt(set) => self.loads(steps, layouts, Next::LooksAt(set)),
+            Next::TakesUp(object) => self.swaps(
+                steps,
+                layouts,
+                Next::TakesUp(object),
+                epoch + 1,
+                epoch + 2,
+            ),
+            Next::Counts => self.loads(steps, layouts, Next::Counts),
+            Next::Searches(left) => self.loads(steps, layouts, Next::Searches(left)),
+        }
+    }
+
+    // What it keeps lies in its heap.
+    #[inline(always)]
+    pub(crate) fn lies_in_heap(&self)
+        ensures { LiesInHeap self.now }
+    {
+        let _ = &self.work;
     }
 
     // What it does next.
+    #[inline(always)]
     fn next(&self) -> Next
-        ensures next { IsNext self.now result }
-        ensures lies { LiesInHeap self.now }
+        ensures { IsNext self.now result }
     {
         if self.work.owed > 0 {
             return Next::Gives;
@@ -126,6 +169,7 @@ impl Marker {
         }
     }
 
+    #[inline(always)]
     fn next_place(&self) -> Next
         requires { IsClear self.now }
         ensures { IsNext self.now result }
@@ -150,6 +194,7 @@ impl Marker {
         }
     }
 
+    #[inline(always)]
     fn next_free(&self) -> Next
         requires { IsFree self.now }
         ensures { IsNext self.now result }
@@ -167,54 +212,33 @@ impl Marker {
         }
     }
 
-    // The step that it makes next.
-    fn step(&self, next: Next) -> (Kind, Place, Action)
+    // The kind of the step that it makes next, and its place.
+    #[inline(always)]
+    pub(crate) fn step(&self, next: Next) -> (Kind, Place)
         requires { IsNext self.now next }
-        ensures { does result.0 result.1 result.2 ≡ steps_of.step_of self.now next }
+        ensures kind { result.0 ≡ (steps_of.step_of self.now next).kind }
+        ensures place { result.1 ≡ (steps_of.step_of self.now next).place }
     {
-        let epoch = 4 * u64::from(self.work.epoch);
         match next {
-            Next::Gives => (Kind::K21, Place::Pending, Action::Subtracts(1)),
-            Next::Meets(child) => (Kind::K20, Place::Side(child), Action::Loads),
-            Next::Adds(_, _) => (Kind::K19, Place::Pending, Action::Adds(1)),
-            Next::Grays(child, mark) => {
-                (
-                    Kind::K20,
-                    Place::Side(child),
-                    Action::Swaps(mark, epoch + 1),
-                )
+            Next::Gives => (Kind::K21, Place::Pending),
+            Next::Adds(_, _) => (Kind::K19, Place::Pending),
+            Next::Meets(child) | Next::Grays(child, _) => (Kind::K20, Place::Side(child)),
+            Next::LoadsRoot(set, word) => (Kind::K18, set_place(&self.sizes, set, word)),
+            Next::Finishes(set) | Next::Claims(set, _) | Next::LooksAt(set) => {
+                (Kind::K17, Place::RootSet(set))
             }
-            Next::LoadsRoot(set, word) => {
-                (Kind::K18, set_place(&self.sizes, set, word), Action::Loads)
-            }
-            Next::Finishes(set) => (Kind::K17, Place::RootSet(set), Action::Stores(epoch + 3)),
-            Next::LoadsHeader(cell) => (Kind::K23, Place::Body(cell), Action::Loads),
-            Next::LoadsField(cell, _, field) => {
-                (Kind::K23, Place::Body(cell + 1 + field), Action::Loads)
-            }
-            Next::Blackens(cell) => (Kind::K24, Place::Side(cell), Action::Stores(epoch + 3)),
-            Next::Claims(set, word) => {
-                (
-                    Kind::K17,
-                    Place::RootSet(set),
-                    Action::Swaps(word, epoch + 2),
-                )
-            }
-            Next::LooksAt(set) => (Kind::K17, Place::RootSet(set), Action::Loads),
-            Next::TakesUp(object) => {
-                (
-                    Kind::K22,
-                    Place::Side(object),
-                    Action::Swaps(epoch + 1, epoch + 2),
-                )
-            }
-            Next::Counts => (Kind::K16, Place::Pending, Action::Loads),
-            Next::Searches(_) => (Kind::K20, Place::Side(self.cursor), Action::Loads),
+            Next::LoadsHeader(cell) => (Kind::K23, Place::Body(cell)),
+            Next::LoadsField(cell, _, field) => (Kind::K23, Place::Body(cell + 1 + field)),
+            Next::Blackens(cell) => (Kind::K24, Place::Side(cell)),
+            Next::TakesUp(object) => (Kind::K22, Place::Side(object)),
+            Next::Counts => (Kind::K16, Place::Pending),
+            Next::Searches(_) => (Kind::K20, Place::Side(self.cursor)),
         }
     }
 
     // What it keeps behind its next step, which found a word, and what its turn answers.
-    fn learns(&mut self, layouts: &[Layout], next: Next, word: u64) -> MarkTurn
+    #[inline(always)]
+    pub(crate) fn learns(&mut self, layouts: &[Layout], next: Next, word: u64) -> MarkTurn
         requires next { IsNext self.old next }
         requires at_ref { (z : Ground) → z.layouts ≡ layouts.now → IsAtRef z self.old.work.doing }
         requires near { NamesNear self.old next word }
@@ -233,6 +257,7 @@ impl Marker {
         answer
     }
 
+    #[inline(always)]
     fn work_behind(&self, layouts: &[Layout], next: Next, word: u64) -> Work
         requires next { IsNext self.now next }
         requires near { NamesNear self.now next word }
@@ -258,6 +283,7 @@ impl Marker {
         }
     }
 
+    #[inline(always)]
     fn stage_behind(&self, next: Next, word: u64) -> Stage
         requires { IsNext self.now next }
         ensures { result ≡ steps_of.stage_behind self.now next word }
@@ -282,6 +308,7 @@ impl Marker {
         }
     }
 
+    #[inline(always)]
     fn searched(&self, left: u8) -> Stage
         ensures { result ≡ steps_of.searched self.now left }
     {
@@ -296,6 +323,7 @@ impl Marker {
         }
     }
 
+    #[inline(always)]
     fn cursor_behind(&self, next: Next) -> u32
         ensures { result ≡ steps_of.cursor_behind self.now next }
     {
@@ -311,6 +339,7 @@ impl Marker {
         }
     }
 
+    #[inline(always)]
     fn answer(&self, next: Next, word: u64) -> MarkTurn
         ensures { result ≡ steps_of.answer_behind self.now next word }
     {
@@ -343,6 +372,7 @@ impl Marker {
 }
 
 // The stage behind a root set.
+#[inline(always)]
 fn after_set(sizes: &Sizes, set: u8) -> Stage
     requires good { IsGood sizes.now }
     requires near { set < sizes.now.threads + 2 }

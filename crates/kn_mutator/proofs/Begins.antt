@@ -1,19 +1,20 @@
 -- The task between two calls, and what a call asks the allocator for.
 use Rattle.std.proofs.Common.{◌≡◌, ℕ, ◌+◌, ◌<◌, ◌≤◌, ◌⊎◌, inl, inr, Bool, true, false, cond, List, length, Option, Some}
 use Rattle.std.proofs.Common.{None, is_some, slice_get}
-use Rattle.std.proofs.Common.{get_or, refl, sym, ap, subst, arith}
+use Rattle.std.proofs.Common.{get_or, refl, sym, ap, ◌∙◌, subst, arith}
 use Rattle.std.proofs.Math.Nat.{le-max_right}
 use Rattle.std.proofs.lemmas.Bool.{le-ltb, lt-ltb}
 use Rattle.std.proofs.lemmas.Option.{slice_get_cases}
 use Rattle.kn_base.specs.declared.classes.TheConstants.{SINGLE_CLASS}
 use Rattle.kn_base.specs.declared.heap.Sizes.{Sizes}
 use Rattle.kn_layout.specs.declared.layouts.Layout.{Layout}
-use Rattle.kn_layout.specs.Layouts.{cell_size}
+use Rattle.kn_layout.specs.Layouts.{cell_size, fields_of}
 use Rattle.kn_graph.specs.declared.calls.Call.{Call}
 use Rattle.kn_graph.specs.declared.calls.Call.TheVariants.{New, NewArray}
 use Rattle.kn_graph.specs.declared.calls.Reply.{Reply}
 use Rattle.kn_graph.specs.declared.calls.Reply.TheVariants.{Full}
 use Rattle.kn_graph.specs.Counts.{makes_object}
+use Rattle.kn_graph.specs.Graph.{kinds_for, length_for}
 use Rattle.kn_graph.specs.Ground.{Ground}
 use Rattle.kn_rule.specs.Outcomes.{view_answer}
 use Rattle.kn_rule.specs.Requests.{asks_too_much, birth_of, birth_words, class_for, class_where, header_for, is_too_long, words_asked}
@@ -70,6 +71,14 @@ layout_by layouts i P never there few (inr w) = absurd (never (subst P w.1 there
 pub layout_near : (layouts : List Layout) (i : ℕ) (P : Option Layout → Type 0) → (P None → ⊥) → P (slice_get layouts i) →
     length layouts ≤ 64 → i < 64
 layout_near layouts i P never there few = layout_by layouts i P never there few (slice_get_cases layouts i).1
+
+-- a layout that is found among those of m, whose parts n has, tells how many fields an object has
+pub fields_told : (m n : Mutating) → m ≡ n → (list : List Layout) → list ≡ m.heap.layouts → (j i : ℕ) → j ≡ i → (len : ℕ) →
+    (layout : Layout) → slice_get list j ≡ Some layout → length (fields_of layout len) ≡ length_for n.heap i len
+fields_told m n same list is j i index len layout there =
+    sym (ap (λ o. length (kinds_for o len)) there)
+    ∙ (λ t. length (kinds_for (slice_get (is t) (index t)) len))
+    ∙ ap (λ (q : Mutating). length_for q.heap i len) same
 
 -- the request for a birth of this layout and length
 pub request_is : (z : Ground) (call : Call) (r layout len : ℕ) (request : Request) → makes_object call ≡ true →

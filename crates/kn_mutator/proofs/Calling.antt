@@ -18,6 +18,7 @@ use Rattle.kn_rule.specs.Views.{View}
 use Rattle.kn_steps.specs.Made.{LieAs, Made, Stand}
 use Rattle.kn_steps.specs.declared.turns.Turn.TheVariants.{Moved}
 use Rattle.kn_alloc.specs.Agree.{IsIdle}
+use Rattle.kn_mutator.specs.declared.task.Task.{Task}
 use Rattle.kn_mutator.specs.declared.task.Task.TheVariants.{Calls, Writes}
 use Rattle.kn_mutator.specs.Agree.{Agrees, AtTask, CallsAt, HasEnded, IsHeaderRead}
 use Rattle.kn_mutator.specs.After.{referred, resting_task, said}
@@ -26,6 +27,11 @@ use Rattle.kn_mutator.specs.Tasks.{call_step, calling_task, has_left, has_single
 use Rattle.kn_mutator.specs.Turns.{Goes, asks_none}
 use Rattle.kn_mutator.proofs.Making.{goes_by, makes, moves_on, rest_goes_on}
 use Rattle.kn_mutator.proofs.Core.{addresses_made, agrees_then, all_get, answers_more, is_thread, rest_at, said_is}
+
+-- a task is the same at a call and a header that are the same
+pub task_as : {t : Task} {call : Call} {call' : Call} {h : Option ℕ} {h' : Option ℕ} →
+    t ≡ Calls call h → call ≡ call' → h ≡ h' → t ≡ Calls call' h'
+task_as {t} {call} {call'} {h} is same same_header = is ∙ ap (λ q. Calls q h) same ∙ ap (Calls call') same_header
 
 -- a call at its own steps
 module _ (m : Mutating) (a : Stand) (here : ℕ → Bool) (g : Agrees m a here) (call : Call) (h : Option ℕ) (is : m.task ≡ Calls call h) where

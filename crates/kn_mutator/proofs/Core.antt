@@ -44,6 +44,10 @@ use Rattle.kn_mutator.specs.After.{resting_task, said}
 use Rattle.kn_mutator.specs.Mutating.{Knows, Mutating}
 use Rattle.kn_mutator.specs.Tasks.{has_left, has_single, rest_task, task_at, task_by}
 
+-- the parts of a mutator have its task
+pub task_now : {m : Mutating} {n : Mutating} {t : Task} → m ≡ n → m.task ≡ t → n.task ≡ t
+task_now {m} {n} {t} same is = subst (λ (q : Mutating). q.task ≡ t) same is
+
 -- behind a step the caller's locals are addresses, and a phase that was found is a short word
 module _ (a : Stand) (here : ℕ → Bool) (d : Step) (f : Found) (b : Stand) (here' : ℕ → Bool) (made : Made a here d f b here') where
   pub addresses_made : IsGoodGround a.heap → a.by < a.heap.sizes.threads → (r : ℕ) → r < LOCALS → slice_index b.view.locals r ≤ 1000000

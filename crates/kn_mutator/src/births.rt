@@ -2,6 +2,7 @@
 ghost use Rattle.std.specs.Prelude.{◌≡◌, ◌<◌, length, true};
 ghost use Rattle.kn_graph.specs.Arguments.{IsInRange};
 ghost use Rattle.kn_graph.specs.Counts.{makes_object};
+ghost use Rattle.kn_graph.specs.declared.calls.Call.{Call};
 ghost use Rattle.kn_mutator.specs.declared.task.Task.TheVariants.{Births};
 ghost use Rattle.kn_mutator.specs.After.{born};
 ghost use Rattle.kn_mutator.specs.Agree.{Agrees};
@@ -17,17 +18,34 @@ use kn_steps::{Steps, Turn};
 
 impl Mutator {
     // The allocator makes its turn for the birth.
-    pub(crate) fn gets_cell<T: Steps<Page>>(&mut self, steps: &mut T, call: Call) -> Turn
+    pub(crate) fn gets_cell<T: Steps<Page>>(&mut self, steps: &mut T) -> Turn
         requires agrees { Agrees self.old (T.stand steps.old) (T.here steps.old) }
-        requires task { self.old.task ≡ Births call }
+        requires task { (call : Call) × (self.old.task ≡ Births call) }
         ensures { GoesOrStops T.stand T.here T.did T.moved asks_none self.old steps.old steps.new self.new result }
     {
         match self.allocator.turn(steps) {
             AllocTurn::Moved => {}
-            AllocTurn::Full => self.answers(call, Reply::Full),
-            AllocTurn::Born(address) => self.bears(call, address),
+            AllocTurn::Full => {
+                let call = self.birth();
+                self.answers(call, Reply::Full);
+            }
+            AllocTurn::Born(address) => {
+                let call = self.birth();
+                self.bears(call, address);
+            }
         }
         Turn::Moved
+    }
+
+    // The call of the birth that is under way.
+    fn birth(&self) -> Call
+        requires { (call : Call) × (self.now.task ≡ Births call) }
+        ensures { self.now.task ≡ Births result }
+    {
+        match self.task {
+            Task::Births(call) => call,
+            _ => unreachable!(),
+        }
     }
 
     // The object of a call is born.

@@ -1,5 +1,6 @@
 //! Calls at their own steps.
 ghost use Rattle.std.specs.Prelude.{◌≡◌, ℕ, ◌+◌, ◌<◌, ◌≤◌, Option, Some, None, length, slice_index};
+ghost use Rattle.kn_graph.specs.declared.calls.Call.{Call};
 ghost use Rattle.kn_graph.specs.declared.calls.Call.TheVariants.{Copy, Clear, Get, Set, Put, Read, GlobalSet, GlobalGet};
 ghost use Rattle.kn_base.specs.declared.places.Place.TheVariants.{Body};
 ghost use Rattle.kn_layout.specs.declared.layouts.FieldKind.{FieldKind};
@@ -94,7 +95,8 @@ impl Mutator {
     // The header was read: the call goes on, or it is answered.
     #[inline(always)]
     fn judges(&mut self, call: Call, word: u64)
-        requires { length self.old.log < length self.old.calls }
+        requires room { length self.old.log < length self.old.calls }
+        requires task { self.old.task ≡ Calls call None }
         ensures { self.new ≡ judged self.old call word }
     {
         if let Some((_, field, wanted)) = field_of(call) {
@@ -102,12 +104,24 @@ impl Mutator {
                 None => self.answers(call, Reply::NoField),
                 Some(kind) => {
                     if kind == wanted {
-                        self.goes_to(Task::Calls(call, Some(word)));
+                        self.goes_on_behind(word);
                     } else {
                         self.answers(call, Reply::WrongKind);
                     }
                 }
             }
+        }
+    }
+
+    // The call goes on behind the header that was read.
+    #[inline(always)]
+    fn goes_on_behind(&mut self, word: u64)
+        requires { (call : Call) × (header : Option ℕ) × (self.old.task ≡ Calls call header) }
+        ensures { (call : Call) → (h : Option ℕ) → self.old.task ≡ Calls call h → self.new ≡ record self.old { task = Calls call (Some word) } }
+    {
+        match &mut self.task {
+            Task::Calls(_, header) => *header = Some(word),
+            _ => unreachable!(),
         }
     }
 

@@ -89,9 +89,11 @@ impl Mutator {
     {
         let calls = calls_of(alloc, script, i)?;
         let log = Vec::with_capacity(alloc, calls.len())?;
+        let layouts = copy_layouts(alloc, &script.layouts)?;
+        let allocator = ThreadAlloc::open(alloc, &script.sizes, Caller(i))?;
         Ok(Mutator {
             sizes: script.sizes,
-            layouts: copy_layouts(alloc, &script.layouts)?,
+            layouts,
             by: i,
             task: first_task(&calls),
             calls,
@@ -99,7 +101,7 @@ impl Mutator {
             epoch: 0,
             target: None,
             locals: [0; 16],
-            allocator: ThreadAlloc::open(alloc, &script.sizes, Caller(i))?,
+            allocator,
             marker: Marker::open(&script.sizes),
             log,
         })
@@ -140,7 +142,7 @@ impl Mutator {
             Task::Enters => self.enters(steps, gate),
             Task::Polls => self.polls(steps, gate),
             Task::Calls(call, header) => self.calls_at(steps, call, header),
-            Task::Births(call) => self.gets_cell(steps, call),
+            Task::Births(_) => self.gets_cell(steps),
             Task::Writes(local, value) => self.writes(steps, local, value),
             Task::Waits => self.waits(steps),
             Task::SendsSingle => self.sends_single(steps),

@@ -1,6 +1,6 @@
 use kn_graph::Call;
 use kn_lines::{Actor, Built, OrderWord, TODAY, Until, WHOLE};
-use kn_script::{Fault, parse, read_script};
+use kn_script::{Fault, Script, parse, read_script};
 use std::alloc::{AllocError, Global};
 use std::test::Fail;
 
@@ -191,89 +191,111 @@ fn repeated(
     Ok(text)
 }
 
+/// Whether this is told of a text of so many pieces between two others.
+fn is_told(alloc: Global, built: &Built, limit: Limit) -> Result<bool, AllocError> {
+    let Limit(before, piece, count, behind, wanted) = limit;
+    let text = repeated(alloc, before, piece, count, behind)?;
+    let found = told(alloc, built, text.as_str())?;
+    Ok(found.as_str() == wanted)
+}
+
+/// A line's number, what stands before it, and lines that are bad there, each behind its reason.
+const GROUPS: [(u32, &str, &str); 8] = [
+    (1, "", FIRST),
+    (2, HEAP, SECOND),
+    (3, NAMES, THIRD),
+    (5, LAYOUTS, FIFTH),
+    (6, THREADS, SIXTH),
+    (7, TURNS, SEVENTH),
+    (7, BLOCK, IN_BLOCK),
+    (8, ORDER, LAST),
+];
+
+/// Whether a line behind others is bad at that number, for the reason before it.
+fn is_bad(alloc: Global, number: u32, before: &str, case: &str) -> Result<bool, AllocError> {
+    let Some((why, line)) = case.split_once(": ") else {
+        return Ok(false);
+    };
+    let wanted = format!(in alloc; "{number} {why}")?;
+    is_told(alloc, &WHOLE, Limit(before, line, 1, "", wanted.as_str()))
+}
+
 #[test]
 fn lines_have_their_first_reason(rt: HostRuntime) -> Result<(), Fail> {
-    let groups = [
-        (1, "", FIRST),
-        (2, HEAP, SECOND),
-        (3, NAMES, THIRD),
-        (5, LAYOUTS, FIFTH),
-        (6, THREADS, SIXTH),
-        (7, TURNS, SEVENTH),
-        (7, BLOCK, IN_BLOCK),
-        (8, ORDER, LAST),
-    ];
-    for (number, before, cases) in groups {
+    for (number, before, cases) in &GROUPS {
         for case in cases.lines() {
-            let (why, line) = case.split_once(": ").ok_or("no case")?;
-            let text = repeated(rt.alloc(), before, line, 1, "")?;
-            let wanted = format!(in rt.alloc(); "{number} {why}")?;
-            let found = told(rt.alloc(), &WHOLE, text.as_str())?;
-            assert!(rt; found.as_str() == wanted.as_str(), "{found} at {case}");
+            assert!(rt; is_bad(rt.alloc(), *number, before, case)?, "{case}");
         }
     }
     Ok(())
 }
 
+/// Texts, and what is told of each.
+const TEXTS: [(&str, &str); 12] = [
+    ("", "1 Count"),
+    ("\n", "2 Count"),
+    ("\n\n", "3 Count"),
+    ("heap 2 64 1 64 0 2", "2 Count"),
+    ("heap 2 64 1 64 0 2\r\n\r\n# end", "4 Count"),
+    (NAMES, "3 Count"),
+    (LAYOUTS, "5 Count"),
+    (THREADS, "good"),
+    ("heap 2 64 1 64 0 2\r\nnames 1 1 1 1\r\nthreads 1\r", "good"),
+    ("heap 2 64 1 64 0 2\r\r\n", "1 Word"),
+    ("heap 2 64 1 64 0 2\nnames 1 1 1 1\nthreads 1\r\r", "3 Word"),
+    (
+        "#\x01\r\r\n  \n heap  02 064 1 64 0 2 \nnames 00000000000000000001 1 1 1\nthreads 1",
+        "good",
+    ),
+];
+
 #[test]
 fn texts_end_in_many_ways(rt: HostRuntime) -> Result<(), Fail> {
-    let table = [
-        ("", "1 Count"),
-        ("\n", "2 Count"),
-        ("\n\n", "3 Count"),
-        ("heap 2 64 1 64 0 2", "2 Count"),
-        ("heap 2 64 1 64 0 2\r\n\r\n# end", "4 Count"),
-        (NAMES, "3 Count"),
-        (LAYOUTS, "5 Count"),
-        (THREADS, "good"),
-        ("heap 2 64 1 64 0 2\r\nnames 1 1 1 1\r\nthreads 1\r", "good"),
-        ("heap 2 64 1 64 0 2\r\r\n", "1 Word"),
-        ("heap 2 64 1 64 0 2\nnames 1 1 1 1\nthreads 1\r\r", "3 Word"),
-        (
-            "#\x01\r\r\n  \n heap  02 064 1 64 0 2 \nnames 00000000000000000001 1 1 1\nthreads 1",
-            "good",
-        ),
-    ];
-    for (text, wanted) in table {
-        let found = told(rt.alloc(), &WHOLE, text)?;
-        assert!(rt; found.as_str() == wanted, "{found} at {text}");
+    for (text, wanted) in &TEXTS {
+        assert!(rt;
+            is_told(rt.alloc(), &WHOLE, Limit(text, "", 0, "", wanted))?,
+            "{text}"
+        );
     }
     Ok(())
 }
 
+/// Lines in a thread's block, and what is told where only the words of today are built.
+const LINES: [(&str, &str); 12] = [
+    ("put 15 65535 18446744073709551615", "good"),
+    ("gget 0 0", "good"),
+    ("pin 99", "7 Word"),
+    ("gc", "7 Word"),
+    ("order 1 0 1", "good"),
+    ("order 2", "7 Range"),
+    ("order 0*1 1/2 0@idle c c*3 c@mark r r*4 r@sweep", "good"),
+    ("order c/1", "7 Word"),
+    ("order r/1", "7 Word"),
+    ("order f", "7 Word"),
+    ("order f*2", "7 Word"),
+    ("order u0", "7 Word"),
+];
+
 #[test]
 fn words_that_are_not_built_are_unknown(rt: HostRuntime) -> Result<(), Fail> {
-    let table = [
-        ("put 15 65535 18446744073709551615", "good"),
-        ("gget 0 0", "good"),
-        ("pin 99", "7 Word"),
-        ("gc", "7 Word"),
-        ("order 1 0 1", "good"),
-        ("order 2", "7 Range"),
-        ("order 0*1 1/2 0@idle c c*3 c@mark r r*4 r@sweep", "good"),
-        ("order c/1", "7 Word"),
-        ("order r/1", "7 Word"),
-        ("order f", "7 Word"),
-        ("order f*2", "7 Word"),
-        ("order u0", "7 Word"),
-    ];
-    for (line, wanted) in table {
-        let text = repeated(rt.alloc(), BLOCK, line, 1, "")?;
-        let found = told(rt.alloc(), &TODAY, text.as_str())?;
-        assert!(rt; found.as_str() == wanted, "{found} at {line}");
+    for (line, wanted) in &LINES {
+        assert!(rt;
+            is_told(rt.alloc(), &TODAY, Limit(BLOCK, line, 1, "", wanted))?,
+            "{line}"
+        );
     }
     Ok(())
 }
 
 /// A text of so many pieces between two others, and what is told of it.
 #[derive(Clone, Copy)]
-struct Limit(&'static str, &'static str, u32, &'static str, &'static str);
+struct Limit<'a>(&'a str, &'a str, u32, &'a str, &'a str);
 
 const FIELDS: &str = "heap 2 64 1 64 0 2\nnames 1 1 1 1\nlayout fields";
 
 const WORDS: &str = "heap 2 64 1 64 0 2\nnames 1 1 1 1\nthreads 1\norder";
 
-const LIMITS: [Limit; 17] = [
+const LIMITS: [Limit<'static>; 17] = [
     Limit(NAMES, "layout array int\n", 64, "threads 1", "good"),
     Limit(NAMES, "layout array int\n", 65, "threads 1", "67 Range"),
     Limit(FIELDS, " ref", 64, "\nthreads 1", "good"),
@@ -296,9 +318,7 @@ const LIMITS: [Limit; 17] = [
 #[test]
 fn texts_meet_the_limits(rt: HostRuntime) -> Result<(), Fail> {
     for limit in &LIMITS {
-        let text = repeated(rt.alloc(), limit.0, limit.1, limit.2, limit.3)?;
-        let found = told(rt.alloc(), &WHOLE, text.as_str())?;
-        assert!(rt; found.as_str() == limit.4, "{found} at {}", limit.2);
+        assert!(rt; is_told(rt.alloc(), &WHOLE, *limit)?, "{}", limit.2);
     }
     Ok(())
 }
@@ -327,15 +347,20 @@ fn number_of_until(until: Until) -> u32 {
     }
 }
 
+/// Whether these are the parts of the order words.
+fn have_parts(words: &[OrderWord], wanted: &[(u32, u32)]) -> bool {
+    for (word, parts) in words.iter().zip(wanted.iter()) {
+        if parts_of(*word) != *parts {
+            return false;
+        }
+    }
+    words.len() == wanted.len()
+}
+
 #[test]
 fn order_words_are_read(rt: HostRuntime) -> Result<(), Fail> {
-    let text = repeated(
-        rt.alloc(),
-        THREADS,
-        "order 0 1*3 c f@stopb r r*4 1/9 u3",
-        1,
-        "\n",
-    )?;
+    let line = "order 0 1*3 c f@stopb r r*4 1/9 u3";
+    let text = repeated(rt.alloc(), THREADS, line, 1, "\n")?;
     let script = read_script(rt.alloc(), &WHOLE, text.as_bytes())?;
     let wanted = [
         (0, 1),
@@ -347,11 +372,25 @@ fn order_words_are_read(rt: HostRuntime) -> Result<(), Fail> {
         (1, 9),
         (40, 3),
     ];
-    assert!(rt; script.order.len() == wanted.len());
-    for (word, parts) in script.order.iter().zip(wanted) {
-        assert!(rt; parts_of(*word) == parts);
-    }
+    assert!(rt; have_parts(&script.order, &wanted));
     Ok(())
+}
+
+/// Whether a script of two threads, of which the second makes an array and clears a local, is that.
+fn is_read(script: &Script) -> bool {
+    let sizes = script.sizes;
+    let second = match script.threads.get(1) {
+        Some(calls) => matches!(calls.as_slice(), [Call::NewArray(1, 1, 60_000), _]),
+        None => false,
+    };
+    script.turns == 9
+        && sizes.large == 1
+        && sizes.globals == 1
+        && sizes.calls[1] == 2
+        && sizes.births[1] == 1
+        && script.layouts.len() == 2
+        && script.threads.len() == 2
+        && second
 }
 
 #[test]
@@ -359,15 +398,6 @@ fn scripts_are_read(rt: HostRuntime) -> Result<(), Fail> {
     let lines = "thread 1\nnewa 1 1 60000\nclear 2\n";
     let text = repeated(rt.alloc(), TURNS, lines, 1, "order 0")?;
     let script = parse(rt.alloc(), text.as_bytes())?;
-    let sizes = script.sizes;
-    assert!(rt; script.turns == 9 && sizes.large == 1 && sizes.globals == 1);
-    assert!(rt; sizes.calls[1] == 2 && sizes.births[1] == 1);
-    assert!(rt; script.layouts.len() == 2 && script.threads.len() == 2);
-    assert!(rt;
-        matches!(
-            script.threads[1].as_slice(),
-            [Call::NewArray(1, 1, 60_000), _]
-        )
-    );
+    assert!(rt; is_read(&script));
     Ok(())
 }

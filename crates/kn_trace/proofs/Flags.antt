@@ -1,11 +1,11 @@
 -- Flags of who has ended, and counts of what was answered.
-use Rattle.std.proofs.Common.{◌≡◌, ℕ, ◌+◌, ◌-◌, ◌<◌, Bool, true}
+use Rattle.std.proofs.Common.{◌≡◌, ℕ, ◌<◌, Bool, true}
 use Rattle.std.proofs.Common.{false, List, [], ◌∷◌, ◌++◌, length, map, get_or, Some}
-use Rattle.std.proofs.Common.{slice_get, slice_set, refl, sym, ap, ◌∙◌, arith, length-append}
+use Rattle.std.proofs.Common.{slice_get, slice_set, refl, sym, ap, ◌∙◌, arith}
 use Rattle.std.specs.Option.{option_map}
 use lib.ListN.{length-map}
 use Rattle.std.proofs.Math.Seq.{set-append_seam}
-use Rattle.std.proofs.lemmas.List.{get_or_append_left, get_or-append_right, map-set, set-append_left}
+use Rattle.std.proofs.lemmas.List.{get_or_append_left, map-set, set-append_left}
 use Rattle.std.proofs.lemmas.Option.{slice_get_within, slice_get-map, get_or_from_slice_get}
 use Rattle.kn_collector.specs.declared.stage.Stage.{Stage}
 use Rattle.kn_collector.specs.declared.stage.Stage.TheVariants as stages
@@ -55,18 +55,8 @@ module _ (ms : List Mutating) (k : Kept) where
   abbrev flag : Mutating → Bool
   flag m = is_end m.task
 
-  pub ends_long : length (ends ms k) ≡ length ms + 1
-  ends_long = length-append (map flag ms) (is_over k.stage ∷ []) ∙ ap (λ n. n + 1) (length-map ms flag)
-
   -- the flag of a thread is that of its mutator
   pub thread_flag : (i : ℕ) (m : Mutating) → slice_get ms i ≡ Some m → get_or (ends ms k) i false ≡ is_end m.task
   thread_flag i m is =
       get_or_append_left (map flag ms) (is_over k.stage ∷ []) false i (omega (arith, length-map ms flag, slice_get_within ms i m is))
       ∙ get_or_from_slice_get (map flag ms) i (is_end m.task) false (slice_get-map flag ms i ∙ ap (option_map flag) is)
-
-  -- and the last one is the collector's
-  pub last_flag : get_or (ends ms k) (length ms) false ≡ is_over k.stage
-  last_flag =
-      let none : length ms - length ms ≡ 0 = omega arith in
-      get_or-append_right (map flag ms) (is_over k.stage ∷ []) (length ms) (length ms) false (length-map ms flag) (omega arith)
-      ∙ ap (λ n. get_or (is_over k.stage ∷ []) n false) none

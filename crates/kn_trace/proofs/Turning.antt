@@ -1,6 +1,6 @@
 -- A turn of an actor on its seat is a turn of the run.
 use Rattle.std.proofs.Common.{◌≡◌, ℕ, ◌+◌, ◌<◌, ◌≤◌, inl, inr, Bool, true}
-use Rattle.std.proofs.Common.{false, List, [], ◌∷◌, ◌++◌, length, map, Some, get_or, slice_get}
+use Rattle.std.proofs.Common.{List, [], ◌∷◌, ◌++◌, length, map, Some, get_or, slice_get}
 use Rattle.std.proofs.Common.{slice_set, refl, sym, ap}
 use Rattle.std.proofs.Common.{◌∙◌, subst, arith, add-one}
 use Rattle.std.proofs.lemmas.Option.{slice_get_read}
@@ -12,7 +12,7 @@ use Rattle.kn_base.specs.declared.places.Place.TheVariants.{Phase}
 use Rattle.kn_rule.specs.Decoding.{phase_of}
 use Rattle.kn_rule.specs.Views.{View}
 use Rattle.kn_schedule.specs.Asks.{Standing, standing_of}
-use Rattle.kn_schedule.specs.Schedules.{AllEnded, IsNext, Left}
+use Rattle.kn_schedule.specs.Schedules.{IsNext, Left}
 use Rattle.kn_steps.specs.Made.{Stand}
 use Rattle.kn_board.specs.World.{World, Sound, Seat, seat, seat_here, seat_stand, stand_at, view_at, word_at, SeatDid, SeatMoved}
 use Rattle.kn_others.specs.Laws.{HeapStays, NoneComesUnswept, NoneIsMet, OthersStay, Turn as TurnOf}
@@ -25,7 +25,6 @@ use Rattle.kn_mutator.specs.Agree.{Agrees}
 use Rattle.kn_mutator.specs.Mutating.{Mutating}
 use Rattle.kn_mutator.specs.Turns.{Turned, lets_all}
 use Rattle.kn_trace.specs.Traces.{IsCollectorTurn, IsThreadTurn, IsTurn, Runs, Trace, answers, ends, standing_in}
-use Rattle.kn_trace.specs.Runs.{HaveEnded}
 use Rattle.kn_trace.specs.Between.{AgreesAt, Holds, MakesCollection, MakesTurn, Running, Stays, Takes, TakesAll, trace_of}
 use Rattle.kn_trace.proofs.Keeping.{collected, collected_stays, goes_on, stays}
 use Rattle.kn_trace.proofs.Logs.{calls_alone, counts_are}
@@ -126,13 +125,6 @@ module _ (t : Trace) (holds : Holds t) (sound : Sound t.board) (flags asked_flag
       subst (λ n. IsNext n (standing_in t) left actor left') threads_is
       (subst (λ (x : Standing). IsNext threads x left actor left') standing_is next)
 
--- where flags say that all have ended, they have
-pub all_have_ended : (ms : List Mutating) (k : Kept) (flags asked : List Bool) (threads : ℕ) → asked ≡ flags → flags ≡ ends ms k →
-    threads ≡ length ms → AllEnded (threads + 1) (λ i. get_or asked i false) → HaveEnded ms k
-all_have_ended ms k flags asked threads same is n all =
-    subst (λ t. AllEnded (t + 1) (λ i. get_or (ends ms k) i false)) n
-    (subst (λ (x : List Bool). AllEnded (threads + 1) (λ i. get_or x i false)) (same ∙ is) all)
-
 module _ (others : OthersStay) (heaps : HeapStays) (swept : NoneComesUnswept) (moves : StaysAsPagesMove) where
   module _ (met : NoneIsMet) (w w' : World) (r : Running) (thread i : ℕ) (before after : Mutating) (e : i ≡ thread)
       (holds : Holds (trace_of w r)) (near : thread < length r.mutators) (at : slice_get r.mutators thread ≡ Some before)
@@ -221,11 +213,6 @@ collector_takes t mid t' actor left mid_is left_is next turn =
       next = subst (λ (l : Left). IsNext (length t.mutators) (standing_in t) t.left actor l) (sym (left_is ∙ ap (λ (x : Trace). x.left) mid_is)) next;
       turn = inr (record { behind = turn'.behind; reply = turn'.reply; turned = turn'.turned; mutators = turn'.mutators });
     }
-
-pub stays_so : (t mid t' : Trace) (left : Left) → mid ≡ record t { left = left } → Stays mid t' → Stays t t'
-stays_so t mid t' left mid_is stays =
-    let s = subst (λ (x : Trace). Stays x t') mid_is stays in
-    record { heap = s.heap; calls = s.calls }
 
 pub one_more : (n : ℕ) (t mid t' : Trace) → Runs n t mid → IsTurn mid t' → Runs (n + 1) t t'
 one_more n t mid t' runs turn = subst (λ k. Runs k t t') (sym (add-one n)) (mid, runs, turn)

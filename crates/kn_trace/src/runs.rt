@@ -15,8 +15,8 @@ use kn_report::Log;
 use kn_script::{Script, state_laws};
 use std::alloc::{AllocError, Global};
 
-/// What a run leaves: the board, the log of each caller, of which the last one is empty, and whether
-/// its turns were spent with some actor not ended.
+/// What a run leaves: the board, the log of each caller (the threads, the collector, the finalizer), and
+/// whether its turns were spent with some actor not ended.
 #[derive(Drop)]
 pub struct Traced {
     pub board: Board<Page>,

@@ -8,7 +8,7 @@ use Rattle.kn_graph.specs.declared.entries.Entry.{Entry}
 use Rattle.kn_graph.specs.Ground.{Ground}
 use Rattle.kn_rule.specs.declared.steps.Action.{Action}
 use Rattle.kn_rule.specs.declared.positions.Position.{Position}
-use Rattle.kn_rule.specs.declared.positions.Position.TheVariants.{Between}
+use Rattle.kn_rule.specs.declared.positions.Position.TheVariants.{Between, Calling}
 use Rattle.kn_rule.specs.Decoding.{phase_of}
 use Rattle.kn_rule.specs.Phases.{pauses}
 use Rattle.kn_rule.specs.Searches.{is_over}
@@ -21,6 +21,10 @@ use Rattle.kn_view.specs.Told.{Says, told}
 -- where a caller stands, by what is stored
 pub stands_at : (stored now : Part) (at : Position) → stored ≡ now → stored.position ≡ at → now.position ≡ at
 stands_at stored now at e h = sym (ap (λ (q : Part). q.position) e) ∙ h
+
+-- one call is under way at a time
+pub same_call : (at : Position) (call other : Call) → at ≡ Calling call → at ≡ Calling other → call ≡ other
+same_call at call other e o = let both : Calling call ≡ Calling other = sym e ∙ o in cc
 
 -- what is said of a call that is answered where the caller's view has this part
 pub answered : (z : Ground) (mid new : Part) (before after : List Entry) (by : ℕ) (call : Call) (reply : Reply) (address : ℕ) (part : Part) →

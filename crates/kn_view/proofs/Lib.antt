@@ -4,4 +4,5 @@ mod Looked
 mod Searching
 mod Wanted
 mod Placed
+mod Polling
 mod Working

@@ -13,9 +13,9 @@ use Rattle.kn_marking.specs.declared.work.Work.{Work}
 use Rattle.kn_marking.specs.declared.work.Doing.TheVariants.{Free}
 use Rattle.kn_marking.specs.declared.work.Child.TheVariants.{NoChild}
 use Rattle.kn_rule.specs.declared.positions.Position.{Position}
-use Rattle.kn_rule.specs.declared.positions.Position.TheVariants.{Out, Calling}
+use Rattle.kn_rule.specs.declared.positions.Position.TheVariants.{Out, Entering, Between, Calling}
 use Rattle.kn_rule.specs.declared.parts.Taken.{Taken}
-use Rattle.kn_rule.specs.Requests.{class_asked, words_asked}
+use Rattle.kn_rule.specs.Requests.{InArea, class_asked, words_asked}
 use Rattle.kn_rule.specs.Views.{View, Open, Sweep}
 use Rattle.kn_rule.specs.Rule.{fresh}
 
@@ -97,6 +97,12 @@ abbrev pub MayBegin : Ground → Part → Option Call → Type 0
 MayBegin z part None = Unit {0}
 MayBegin z part (Some call) = IsInRange z call × (part.calls + 3 < 2 ^ 32) × (part.births + 1 < 2 ^ 32)
 
+-- a call may begin in a run phase: its caller is between calls, or is entering and waits for no epoch
+abbrev pub is_ready : Position → Option ℕ → Bool
+is_ready Entering None = true
+is_ready Between target = true
+is_ready _ target = false
+
 -- a call that reads a reference into a local reads an address
 abbrev pub IsReadAs : Call → ℕ → Type 0
 IsReadAs (Get r s f) word = (r < 16) × (word < 2 ^ 32)
@@ -117,6 +123,11 @@ abbrev pub IsBirthLocal : Position → Type 0
 IsBirthLocal (Calling (New r layout)) = r < 16
 IsBirthLocal (Calling (NewArray r layout n)) = r < 16
 IsBirthLocal _ = Unit {0}
+
+-- frame p lies in the area of the cells that the call under way asks for
+abbrev pub IsSearched : Ground → ℕ → Position → Type 0
+IsSearched z p (Calling call) = InArea z.sizes p (class_asked z call)
+IsSearched z p _ = Unit {0}
 
 -- the cell of n words at an address for a call, and its class
 abbrev pub cell_asked : Ground → ℕ → Call → Option ℕ → Option (Span × ℕ)

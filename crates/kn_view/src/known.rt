@@ -118,6 +118,7 @@ impl Known {
     }
 
     // The call is answered, and what was read for it is forgotten.
+    #[inline(always)]
     pub(crate) fn answers(
         &mut self,
         history: &mut History,
@@ -154,6 +155,7 @@ impl Known {
     }
 }
 
+#[inline(always)]
 pub(crate) fn entry_by(by: u8, epoch: u32, call: Call, reply: Reply, address: u32) -> Entry
     ensures { result ≡ entry_of by epoch call reply address }
 {

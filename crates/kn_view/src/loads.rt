@@ -1,8 +1,8 @@
 //! What loads of fields and of globals make of a view.
 ghost use Rattle.std.specs.Prelude.{◌≡◌, ◌<◌};
 ghost use Rattle.kn_graph.specs.Ground.{Ground};
-ghost use Rattle.kn_rule.specs.declared.positions.Position.TheVariants.{Calling};
-ghost use Rattle.kn_rule.specs.Steps.{Found, found};
+ghost use Rattle.kn_rule.specs.declared.positions.Position.TheVariants.{Between, Calling};
+ghost use Rattle.kn_rule.specs.Steps.{Found, epoch_in, found, saying};
 ghost use Rattle.kn_rule.specs.Outcomes.{load_body, global_read, header_for_call, field_read, ref_read, ref_word};
 ghost use Rattle.kn_rule.specs.Requests.{told_kind};
 ghost use Rattle.kn_view.specs.Parts.{IsReadAs, IsReadable};
@@ -27,12 +27,13 @@ impl Known {
         match self.position {
             Position::Calling(call) => match self.header {
                 None => self.reads_header(history, layouts, by, call, word),
-                Some(_) => self.reads_field(history, by, call, word),
+                Some(_) => self.reads_field(history, by, word),
             },
             _ => {}
         }
     }
 
+    #[inline(always)]
     fn reads_header(
         &mut self,
         history: &mut History,
@@ -50,34 +51,48 @@ impl Known {
         match field_of(call) {
             None => {}
             Some((_, field, wanted)) => match kind_told(layouts, word, field) {
-                None => {
-                    self.stands(Position::Between);
-                    self.answers(history, by, call, Reply::NoField, 0);
-                }
+                None => self.refuses_field(history, by, Reply::NoField),
                 Some(kind) => {
                     if kind == wanted {
                         self.header = Some(word);
                     } else {
-                        self.stands(Position::Between);
-                        self.answers(history, by, call, Reply::WrongKind, 0);
+                        self.refuses_field(history, by, Reply::WrongKind);
                     }
                 }
             },
         }
     }
 
-    fn reads_field(&mut self, history: &mut History, by: u8, call: Call, word: u64)
-        requires read { IsReadAs call word }
+    // The call under way has no field to read or to store.
+    fn refuses_field(&mut self, history: &mut History, by: u8, reply: Reply)
+        requires { IsShort history.old }
+        ensures { (z : Ground) (call : Call) → self.old.position ≡ Calling call →
+            Says z self.old self.new history.old history.new (λ v. saying by (epoch_in v) call reply 0 (record v { position = Between })) }
+    {
+        match self.position {
+            Position::Calling(call) => {
+                self.stands(Position::Between);
+                self.answers(history, by, call, reply, 0);
+            }
+            _ => {}
+        }
+    }
+
+    fn reads_field(&mut self, history: &mut History, by: u8, word: u64)
+        requires read { (call : Call) → self.old.position ≡ Calling call → IsReadAs call word }
         requires short { IsShort history.old }
-        ensures { (z : Ground) (p : _) (a : _) (page : _) →
+        ensures { (z : Ground) (p : _) (a : _) (page : _) (call : Call) → self.old.position ≡ Calling call →
             Says z self.old self.new history.old history.new (λ v. field_read z by v p a (found word page) call) }
     {
-        match call {
-            Call::Get(r, _, _) => self.reads_reference(history, by, call, r, word as u32),
-            Call::Read(_, _) => {
-                self.stands(Position::Between);
-                self.answers(history, by, call, Reply::Int(word), 0);
-            }
+        match self.position {
+            Position::Calling(call) => match call {
+                Call::Get(r, _, _) => self.reads_reference(history, by, call, r, word as u32),
+                Call::Read(_, _) => {
+                    self.stands(Position::Between);
+                    self.answers(history, by, call, Reply::Int(word), 0);
+                }
+                _ => {}
+            },
             _ => {}
         }
     }
@@ -113,6 +128,7 @@ impl Known {
 }
 
 /// The local that names the object of a call on a field, the field, and the kind wanted.
+#[inline(always)]
 pub fn field_of(call: Call) -> Option<(u8, u32, FieldKind)>
     ensures { result ≡ Rattle.kn_rule.specs.Requests.field_of call }
 {
@@ -126,6 +142,7 @@ pub fn field_of(call: Call) -> Option<(u8, u32, FieldKind)>
 }
 
 /// The answer where a reference was read.
+#[inline(always)]
 pub fn reply_to_reference(address: u32) -> Reply
     ensures { result ≡ ref_word address }
 {
@@ -137,6 +154,7 @@ pub fn reply_to_reference(address: u32) -> Reply
 }
 
 /// The kind of a field of the object that a header tells of, and none where it has no such field.
+#[inline(always)]
 pub fn kind_told(layouts: &[Layout], word: u64, field: u32) -> Option<FieldKind>
     ensures { (z : Ground) → z.layouts ≡ layouts.now → result ≡ told_kind z word field }
 {

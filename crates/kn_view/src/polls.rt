@@ -1,5 +1,6 @@
 //! What polls make of a view.
-ghost use Rattle.std.specs.Prelude.{◌≡◌, ℕ, ◌+◌, ◌^◌, ◌<◌, ◌≤◌, ◌==◌, false, cond, length, nat_le, replicate, slice_index};
+ghost use Rattle.std.specs.Prelude.{◌≡◌, ℕ, ◌+◌, ◌^◌, ◌<◌, ◌≤◌, ◌==◌, ◌&&◌, false, cond};
+ghost use Rattle.std.specs.Prelude.{length, nat_le, replicate, slice_index};
 ghost use Rattle.kn_base.specs.declared.places.Place.TheVariants.{Phase};
 ghost use Rattle.kn_base.specs.Sizes.{frame_count};
 ghost use Rattle.kn_graph.specs.declared.calls.Reply.TheVariants.{Full, Nil};
@@ -13,8 +14,8 @@ ghost use Rattle.kn_rule.specs.Phases.{is_run, last_done};
 ghost use Rattle.kn_rule.specs.Requests.{class_asked, asks_too_much};
 ghost use Rattle.kn_rule.specs.Steps.{found};
 ghost use Rattle.kn_rule.specs.Views.{View};
-ghost use Rattle.kn_rule.specs.Outcomes.{polled, poll_run, enters_for, epoch_told, stays_out, waited, waits_at, view_answer};
-ghost use Rattle.kn_view.specs.Parts.{MayBegin, ground_of, view_with};
+ghost use Rattle.kn_rule.specs.Outcomes.{polled, poll_run, epoch_told, stays_out, waited, waits_at, view_answer};
+ghost use Rattle.kn_view.specs.Parts.{MayBegin, ground_of, is_ready};
 ghost use Rattle.kn_view.specs.Told.{IsShort, Makes, Says};
 
 use crate::history::History;
@@ -46,21 +47,53 @@ impl Known {
         ensures { let z : Ground = ground_of sizes.now layouts.now in
             (page : _) → Says z self.old self.new history.old history.new (λ v. polled z by v Phase (LoadsFor next) (found word page)) }
     {
+        if self.may_begin(word) {
+            self.begins(history, sizes, layouts, by, word, next);
+        } else {
+            self.polls_on(history, by, word);
+        }
+    }
+
+    // Whether a call may begin at a phase word.
+    #[inline(always)]
+    fn may_begin(&self, word: u64) -> bool
+        ensures { result ≡ (is_run (phase_of word).code && is_ready self.now.position self.now.target) }
+    {
+        runs(word) && self.is_ready()
+    }
+
+    // Whether one may begin in a run phase: between calls, or on entering where no epoch is waited for.
+    #[inline(always)]
+    fn is_ready(&self) -> bool
+        ensures { result ≡ is_ready self.now.position self.now.target }
+    {
+        match self.position {
+            Position::Entering => match self.target {
+                None => true,
+                Some(_) => false,
+            },
+            Position::Between => true,
+            _ => false,
+        }
+    }
+
+    // A poll with which no call may begin.
+    fn polls_on(&mut self, history: &mut History, by: u8, word: u64)
+        requires short { IsShort history.old }
+        requires word { word < 2 ^ 35 }
+        requires later { (is_run (phase_of word).code && is_ready self.old.position self.old.target) ≡ false }
+        ensures { (z : Ground) (next : _) (page : _) →
+            Says z self.old self.new history.old history.new (λ v. polled z by v Phase (LoadsFor next) (found word page)) }
+    {
         match self.position {
             Position::Entering => {
                 if runs(word) {
-                    self.enters(history, sizes, layouts, by, word, next);
+                    self.waits(history, by, word);
                 } else {
                     self.joins(word);
                 }
             }
-            Position::Between => {
-                if runs(word) {
-                    self.begins(history, sizes, layouts, by, word, next);
-                } else {
-                    self.stands(Position::Leaving);
-                }
-            }
+            Position::Between => self.stands(Position::Leaving),
             Position::Waiting => self.waits(history, by, word),
             Position::Out => self.joins(word),
             _ => {}
@@ -74,31 +107,6 @@ impl Known {
             Makes z self.old self.new (λ v. stays_out z c v Phase a (found word page)) }
     {
         self.work = joined(self.work, word);
-    }
-
-    // A run phase lets it in: it waits for the epoch that it wants, or a call begins.
-    fn enters(
-        &mut self,
-        history: &mut History,
-        sizes: &Sizes,
-        layouts: &[Layout],
-        by: u8,
-        word: u64,
-        next: Option<Call>,
-    )
-        requires short { IsShort history.old }
-        requires good { IsGoodGround (ground_of sizes.now layouts.now) }
-        requires next { MayBegin (ground_of sizes.now layouts.now) self.old next }
-        requires word { word < 2 ^ 35 }
-        requires width { length self.old.seen ≡ frame_count sizes.now }
-        ensures { let z : Ground = ground_of sizes.now layouts.now in
-            (page : _) → Says z self.old self.new history.old history.new
-            (λ v. enters_for z by v Phase (LoadsFor next) (found word page) self.old.target next) }
-    {
-        match self.target {
-            None => self.begins(history, sizes, layouts, by, word, next),
-            Some(target) => self.waits_in(history, by, word, target),
-        }
     }
 
     // A poll of one that waits for an epoch: in a stop it leaves, where the epoch is not done.
@@ -180,10 +188,10 @@ impl Known {
                 self.stands(Position::Between);
             }
             Some(call) => {
-                let reply = self.answer_to(sizes, layouts, call);
                 self.counts(word, makes_object(call));
-                match reply {
-                    None => self.stands(Position::Calling(call)),
+                self.stands(Position::Calling(call));
+                match self.answer_to(sizes, layouts, call) {
+                    None => {}
                     Some(reply) => {
                         self.stands(Position::Between);
                         self.answers(history, by, call, reply, 0);
@@ -214,11 +222,11 @@ impl Known {
     }
 
     // What the view alone answers.
+    #[inline(always)]
     fn answer_to(&self, sizes: &Sizes, layouts: &[Layout], call: Call) -> Option<Reply>
         requires good { IsGoodGround (ground_of sizes.now layouts.now) }
         requires in_range { IsInRange (ground_of sizes.now layouts.now) call }
-        ensures { (owned : _) (log : _) → let z : Ground = ground_of sizes.now layouts.now in
-            result ≡ view_answer z (view_with z self.now owned log) call }
+        ensures { (v : View) → v.locals ≡ self.now.locals → result ≡ view_answer (ground_of sizes.now layouts.now) v call }
     {
         answer_alone(sizes, layouts, &self.locals, call)
     }
@@ -238,8 +246,10 @@ pub fn answer_alone(
     ensures { (v : View) → result ≡ view_answer (ground_of sizes.now layouts.now) (record v { locals = locals.now }) call }
 {
     match call {
-        Call::New(_, _) => is_too_much(sizes, layouts, call),
-        Call::NewArray(_, _, _) => is_too_much(sizes, layouts, call),
+        Call::New(r, layout) => full_if(asks_too_much(sizes, layouts, Call::New(r, layout))),
+        Call::NewArray(r, layout, n) => {
+            full_if(asks_too_much(sizes, layouts, Call::NewArray(r, layout, n)))
+        }
         Call::Same(r, s) => {
             if locals[r as usize] == locals[s as usize] {
                 Some(Reply::Yes)
@@ -255,6 +265,7 @@ pub fn answer_alone(
     }
 }
 
+#[inline(always)]
 fn nil_at(locals: &[u32; 16], r: u8) -> Option<Reply>
     requires { r < 16 }
     ensures { result ≡ cond (slice_index locals.now r == 0) (Some Nil) None }
@@ -267,6 +278,7 @@ fn nil_at(locals: &[u32; 16], r: u8) -> Option<Reply>
 }
 
 // Whether a call makes an object.
+#[inline(always)]
 fn makes_object(call: Call) -> bool
     ensures { result ≡ Rattle.kn_graph.specs.Counts.makes_object call }
 {
@@ -277,22 +289,22 @@ fn makes_object(call: Call) -> bool
     }
 }
 
-// A birth whose cell is longer than a frame is full.
-fn is_too_much(sizes: &Sizes, layouts: &[Layout], call: Call) -> Option<Reply>
+#[inline(always)]
+fn full_if(full: bool) -> Option<Reply>
+    ensures { result ≡ cond full (Some Full) None }
+{
+    if full { Some(Reply::Full) } else { None }
+}
+
+// Whether the cell of a birth is longer than a frame of its area, or the area has no frame.
+fn asks_too_much(sizes: &Sizes, layouts: &[Layout], call: Call) -> bool
     requires good { IsGoodGround (ground_of sizes.now layouts.now) }
     requires fits { IsInRange (ground_of sizes.now layouts.now) call }
     ensures { let z : Ground = ground_of sizes.now layouts.now in
-        result ≡ cond (asks_too_much z.sizes (class_asked z call) (Rattle.kn_rule.specs.Requests.words_asked z call)) (Some Full) None }
+        result ≡ asks_too_much z.sizes (class_asked z call) (Rattle.kn_rule.specs.Requests.words_asked z call) }
 {
     match words_asked(sizes, layouts, &call) {
-        None => None,
-        Some(words) => {
-            let class = class_of_words(sizes, words);
-            if is_past_frames(sizes, class, words) {
-                Some(Reply::Full)
-            } else {
-                None
-            }
-        }
+        None => false,
+        Some(words) => is_past_frames(sizes, class_of_words(sizes, words), words),
     }
 }

@@ -1,19 +1,19 @@
 //! What searches for a frame make of a view.
-ghost use Rattle.std.specs.Prelude.{◌≡◌, ℕ, ◌<◌, true, length, slice_set};
+ghost use Rattle.std.specs.Prelude.{◌≡◌, ℕ, ◌+◌, ◌<◌, ◌≤◌, false, true, length, slice_set};
 ghost use Rattle.kn_base.specs.declared.places.Place.TheVariants.{Frame};
-ghost use Rattle.kn_base.specs.Sizes.{IsGood};
+ghost use Rattle.kn_base.specs.Sizes.{IsGood, frame_count};
 ghost use Rattle.kn_graph.specs.Arguments.{IsInRange};
 ghost use Rattle.kn_graph.specs.Ground.{Ground, IsGoodGround};
 ghost use Rattle.kn_rule.specs.declared.positions.Position.TheVariants.{Calling};
 ghost use Rattle.kn_rule.specs.Decoding.{frame_of};
 ghost use Rattle.kn_rule.specs.FrameSpans.{frame_span};
 ghost use Rattle.kn_rule.specs.HistoryClauses.{IsRightCall};
-ghost use Rattle.kn_rule.specs.Requests.{area_count, area_from, class_asked};
-ghost use Rattle.kn_rule.specs.Searches.{done_from, is_over};
+ghost use Rattle.kn_rule.specs.Requests.{InArea, area_count, area_from, class_asked};
+ghost use Rattle.kn_rule.specs.Searches.{done_from, is_done_with, is_over};
 ghost use Rattle.kn_rule.specs.Steps.{Found, found};
 ghost use Rattle.kn_rule.specs.Outcomes.{looked_at, full_if, home_at};
 ghost use Rattle.kn_rule.specs.Views.{Open};
-ghost use Rattle.kn_view.specs.Parts.{ground_of};
+ghost use Rattle.kn_view.specs.Parts.{IsSearched, ground_of};
 ghost use Rattle.kn_view.specs.Told.{IsShort, Says, SaysOwning};
 
 use crate::history::History;
@@ -38,29 +38,37 @@ impl Known {
         requires short { IsShort history.old }
         requires good { IsGoodGround (ground_of sizes.now layouts.now) }
         requires call { IsRightCall (ground_of sizes.now layouts.now) self.old.position }
-        requires near { frame < length self.old.seen }
+        requires near { frame < frame_count sizes.now }
+        requires width { length self.old.seen ≡ frame_count sizes.now }
+        requires area { IsSearched (ground_of sizes.now layouts.now) frame self.old.position }
         ensures { let z : Ground = ground_of sizes.now layouts.now in
             (a : _) (page : _) → Says z self.old self.new history.old history.new
             (λ v. looked_at z by v (Frame frame) a (found word page) self.old.position) }
     {
         match self.position {
-            Position::Calling(call) => {
-                self.sees(frame, word);
-                self.ends_search(history, sizes, layouts, by, call);
+            Position::Calling(_) => {
+                if self.sees(frame, word, last_beside(sizes, frame) as usize) {
+                    self.ends_search(history, sizes, layouts, by);
+                }
             }
             _ => {}
         }
     }
 
-    // A frame was seen in this search, with a word.
-    fn sees(&mut self, frame: u16, word: u64)
-        requires { frame < length self.old.seen }
-        ensures { self.new ≡ record self.old { seen = slice_set self.old.seen frame (Some word) } }
+    // A frame was seen in this search, with a word. Tells whether the last one was seen in it too: a search
+    // is not done with a frame that it has not seen.
+    #[inline(always)]
+    fn sees(&mut self, frame: u16, word: u64, last: usize) -> bool
+        requires near { frame < length self.old.seen }
+        requires last { last < length self.old.seen }
+        ensures seen { self.new ≡ record self.old { seen = slice_set self.old.seen frame (Some word) } }
+        ensures last { (class : ℕ) → result ≡ false → is_done_with class self.new.seen self.new.refused last ≡ false }
     {
         let search = self.calls + 1;
         let look = &mut self.looks[frame as usize];
         look.seen_in = search;
         look.word = word;
+        self.looks[last].seen_in == search
     }
 
     // A frame was refused in this search.
@@ -73,27 +81,23 @@ impl Known {
         look.refused_in = search;
     }
 
-    // A call is full where its search is done with each frame of its area.
-    #[inline(always)]
-    fn ends_search(
-        &mut self,
-        history: &mut History,
-        sizes: &Sizes,
-        layouts: &[Layout],
-        by: u8,
-        call: Call,
-    )
+    // The call under way is full where its search is done with each frame of its area.
+    fn ends_search(&mut self, history: &mut History, sizes: &Sizes, layouts: &[Layout], by: u8)
         requires short { IsShort history.old }
         requires good { IsGoodGround (ground_of sizes.now layouts.now) }
-        requires fits { IsInRange (ground_of sizes.now layouts.now) call }
-        requires calling { self.old.position ≡ Calling call }
+        requires call { IsRightCall (ground_of sizes.now layouts.now) self.old.position }
         ensures { let z : Ground = ground_of sizes.now layouts.now in
-            (p : _) (a : _) (f : Found) →
+            (call : Call) (p : _) (a : _) (f : Found) → self.old.position ≡ Calling call →
             Says z self.old self.new history.old history.new (λ v. full_if z by v p a f (is_over z call self.old.seen self.old.refused) call v) }
     {
-        if self.is_over(sizes, class_for(sizes, layouts, call)) {
-            self.stands(Position::Between);
-            self.answers(history, by, call, Reply::Full, 0);
+        match self.position {
+            Position::Calling(call) => {
+                if self.is_over(sizes, class_for(sizes, layouts, call)) {
+                    self.stands(Position::Between);
+                    self.answers(history, by, call, Reply::Full, 0);
+                }
+            }
+            _ => {}
         }
     }
 
@@ -114,7 +118,7 @@ impl Known {
 
     #[inline(always)]
     fn is_done_with(&self, class: u16, frame: usize) -> bool
-        ensures { result ≡ Rattle.kn_rule.specs.Searches.is_done_with class self.now.seen self.now.refused frame }
+        ensures { result ≡ is_done_with class self.now.seen self.now.refused frame }
     {
         let search = self.calls + 1;
         match self.looks.get(frame) {
@@ -151,11 +155,31 @@ impl Known {
             Position::Calling(call) => {
                 if refuses(sizes, layouts, call, home, spans) {
                     self.rules_out(frame);
-                    self.ends_search(history, sizes, layouts, by, call);
+                    self.ends_search(history, sizes, layouts, by);
                 }
             }
             _ => {}
         }
+    }
+}
+
+// The last frame of the area that a frame lies in.
+#[inline(always)]
+fn last_beside(sizes: &Sizes, frame: u16) -> u32
+    requires good { IsGood sizes.now }
+    requires near { frame < frame_count sizes.now }
+    ensures near { result < frame_count sizes.now }
+    ensures last { (class : ℕ) → InArea sizes.now frame class →
+        (area_from sizes.now class ≤ result) × (area_from sizes.now class + area_count sizes.now class ≡ result + 1) }
+{
+    let frame = u32::from(frame);
+    let large = sizes.small + sizes.large;
+    if frame < sizes.small {
+        sizes.small - 1
+    } else if frame < large {
+        large - 1
+    } else {
+        sizes.frames() - 1
     }
 }
 

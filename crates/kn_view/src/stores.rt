@@ -28,6 +28,7 @@ impl Known {
     }
 
     /// What a store of a local makes of it.
+    #[inline(always)]
     pub fn writes_local(&mut self, history: &mut History, by: u8, r: u8, word: u32)
         requires local { r < 16 }
         requires short { IsShort history.old }

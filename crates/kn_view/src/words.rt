@@ -12,6 +12,7 @@ const LAYOUT: u64 = 1 << 48;
 const LENGTH: u64 = 1 << 24;
 
 /// Whether calls begin in the phase of a word.
+#[inline(always)]
 pub fn runs(word: u64) -> bool
     ensures { result ≡ is_run (phase_of word).code }
 {
@@ -26,6 +27,7 @@ pub fn runs(word: u64) -> bool
 }
 
 /// The pauses before a phase word.
+#[inline(always)]
 pub fn pauses_before(word: u64) -> u32
     requires { word < 2 ^ 35 }
     ensures { result ≡ pauses (phase_of word) }
@@ -72,6 +74,7 @@ pub fn stops(word: u64) -> bool
 }
 
 /// The layout of a header word, and its number of fields.
+#[inline(always)]
 pub fn shape_told(word: u64) -> (usize, u32)
     ensures layout { result.0 ≡ (header_of word).layout }
     ensures length { result.1 ≡ (header_of word).length }

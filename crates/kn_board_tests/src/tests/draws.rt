@@ -3,7 +3,7 @@ ghost use Rattle.std.specs.Prelude.{◌<◌};
 
 use rand_core::{Rng, SeedableRng};
 use rand_pcg::Pcg32;
-use std::alloc::{AllocError, Global};
+use std::alloc::Global;
 
 /// Whose turns the random ones in Mark are.
 #[derive(Clone, Copy)]
@@ -15,10 +15,14 @@ pub enum Markers {
     Threads,
 }
 
-/// A sequence of random numbers. Those of one seed are the same at each run.
+/// A sequence of random numbers, and the text that is made of them. Those of one seed are the same at
+/// each run.
 #[derive(Drop)]
 pub struct Draws {
     words: Pcg32,
+    text: String,
+    /// Whether memory was lacking for a part of the text.
+    is_lacking: bool,
 }
 
 /// The numbers of a script: its threads, which of them certainly collects, and its globals.
@@ -30,9 +34,11 @@ struct Shape {
 }
 
 impl Draws {
-    pub fn open(seed: u64) -> Draws {
+    pub fn open(alloc: Global, seed: u64) -> Draws {
         Draws {
             words: Pcg32::seed_from_u64(seed),
+            text: String::new(alloc),
+            is_lacking: false,
         }
     }
 
@@ -44,152 +50,171 @@ impl Draws {
         self.words.next_u32() % limit
     }
 
-    /// A script with at least one `gc`.
-    pub fn script(&mut self, alloc: Global, markers: Markers) -> Result<String, AllocError> {
+    fn push(&mut self, piece: &str) {
+        if self.text.push_str(piece).is_err() {
+            self.is_lacking = true;
+        }
+    }
+
+    /// A piece with a number behind it.
+    fn push_number(&mut self, piece: &str, number: u32) {
+        if write!(self.text, "{piece}{number}").is_err() {
+            self.is_lacking = true;
+        }
+    }
+
+    /// A line of a word and numbers.
+    fn push_line(&mut self, word: &str, numbers: &[u32]) {
+        self.push(word);
+        for number in numbers {
+            self.push_number(" ", *number);
+        }
+        self.push("\n");
+    }
+
+    /// A script with at least one `gc`, or nothing where memory is lacking.
+    pub fn script(&mut self, markers: Markers) -> Option<&str> {
+        self.text.clear();
         let threads = 1 + self.below(4);
         let shape = Shape {
             threads,
             collecting: self.below(threads),
             globals: self.below(4),
         };
-        let mut text = self.head(alloc, shape)?;
+        self.push_head(shape);
         for thread in 0..threads {
-            self.push_thread(alloc, shape, thread, &mut text)?;
+            self.push_thread(shape, thread);
         }
         match markers {
-            Markers::All => self.push_turns(alloc, threads + 1, 600, threads, &mut text)?,
-            Markers::Threads => self.push_marking(alloc, shape, &mut text)?,
+            Markers::All => self.push_turns(threads + 1, 600, threads),
+            Markers::Threads => self.push_marking(shape),
         }
-        Ok(text)
+        if self.is_lacking {
+            None
+        } else {
+            Some(self.text.as_str())
+        }
     }
 
     /// The lines before the threads.
-    fn head(&mut self, alloc: Global, shape: Shape) -> Result<String, AllocError> {
-        let Shape {
-            threads,
-            collecting: _,
-            globals,
-        } = shape;
+    fn push_head(&mut self, shape: Shape) {
         let small = 1 + self.below(4);
         let words = 32 + self.below(64);
         let large = self.below(3);
         let stable = self.below(3);
         let back = self.below(3);
-        format!(in alloc;
-            "heap {small} {words} {large} 128 0 2\nnames {globals} {stable} 1 {back}\n\
-             layout fields ref int ref\nlayout fields int\nlayout array ref\nlayout array int\n\
-             threads {threads}\nturns 9000\n"
-        )
+        self.push_line("heap", &[small, words, large, 128, 0, 2]);
+        self.push_line("names", &[shape.globals, stable, 1, back]);
+        self.push(
+            "layout fields ref int ref\nlayout fields int\nlayout array ref\nlayout array int\n",
+        );
+        self.push_line("threads", &[shape.threads]);
+        self.push("turns 9000\n");
     }
 
     /// The calls of a thread.
-    fn push_thread(
-        &mut self,
-        alloc: Global,
-        shape: Shape,
-        thread: u32,
-        text: &mut String,
-    ) -> Result<(), AllocError> {
-        let line = format!(in alloc; "thread {thread}\n")?;
-        text.push_str(&line)?;
+    fn push_thread(&mut self, shape: Shape, thread: u32) {
+        self.push_line("thread", &[thread]);
         let collects = thread == shape.collecting || self.below(4) == 0;
         let before = 4 + self.below(20);
-        for _ in 0..before {
-            let line = self.calls(alloc, shape.globals)?;
-            text.push_str(&line)?;
-        }
+        self.push_calls(before, shape.globals);
         if collects {
-            text.push_str("gc\n")?;
+            self.push("gc\n");
         }
-        for _ in 0..10 {
-            let line = self.calls(alloc, shape.globals)?;
-            text.push_str(&line)?;
+        self.push_calls(10, shape.globals);
+    }
+
+    fn push_calls(&mut self, count: u32, globals: u32) {
+        for _ in 0..count {
+            self.push_call(globals);
         }
-        Ok(())
     }
 
     /// Calls on six locals, but no `gc`.
-    fn calls(&mut self, alloc: Global, globals: u32) -> Result<String, AllocError> {
+    fn push_call(&mut self, globals: u32) {
         let r = self.below(5);
         let s = self.below(5);
         let field = self.below(4);
         match self.below(16) {
-            0..=4 => self.link(alloc, s, field),
-            5 => format!(in alloc; "new {r} {}\n", self.below(2)),
-            6 => format!(in alloc; "newa {r} {} {}\n", 2 + self.below(2), self.below(100)),
-            7 | 8 => format!(in alloc; "set {s} {field} {r}\n"),
-            9 => format!(in alloc; "get {r} {s} {field}\n"),
-            10 => format!(in alloc; "put {s} {field} {}\n", self.below(500)),
-            11 => format!(in alloc; "clear {r}\n"),
-            12 | 13 if globals > 0 => format!(in alloc; "gset {} {r}\n", self.below(globals)),
-            14 if globals > 0 => format!(in alloc; "gget {r} {}\n", self.below(globals)),
-            _ => format!(in alloc; "copy {r} {s}\n"),
+            0..=4 => self.push_link(s, field),
+            5 => {
+                let layout = self.below(2);
+                self.push_line("new", &[r, layout]);
+            }
+            6 => {
+                let layout = 2 + self.below(2);
+                let length = self.below(100);
+                self.push_line("newa", &[r, layout, length]);
+            }
+            7 | 8 => self.push_line("set", &[s, field, r]),
+            9 => self.push_line("get", &[r, s, field]),
+            10 => {
+                let number = self.below(500);
+                self.push_line("put", &[s, field, number]);
+            }
+            11 => self.push_line("clear", &[r]),
+            12 | 13 if globals > 0 => {
+                let global = self.below(globals);
+                self.push_line("gset", &[global, r]);
+            }
+            14 if globals > 0 => {
+                let global = self.below(globals);
+                self.push_line("gget", &[r, global]);
+            }
+            _ => self.push_line("copy", &[r, s]),
         }
     }
 
     /// Local s gets a new object that has in a field what the local held.
-    fn link(&mut self, alloc: Global, s: u32, field: u32) -> Result<String, AllocError>
+    fn push_link(&mut self, s: u32, field: u32)
         requires { field < 4 }
     {
         if self.below(2) == 0 {
-            format!(in alloc; "new 5 0\nset 5 {} {s}\ncopy {s} 5\n", field / 2 * 2)
+            self.push("new 5 0\n");
+            self.push_line("set", &[5, field / 2 * 2, s]);
         } else {
             let length = 1 + field + self.below(3);
-            format!(in alloc; "newa 5 2 {length}\nset 5 {field} {s}\ncopy {s} 5\n")
+            self.push_line("newa", &[5, 2, length]);
+            self.push_line("set", &[5, field, s]);
         }
+        self.push_line("copy", &[s, 5]);
     }
 
     /// An order in which the threads run up to Mark and mark; the thread that certainly collects never
     /// ends. Behind them the collector loads the words of all root sets, and a count of 0, and stores
     /// Weak. Then it has no turn.
-    fn push_marking(
-        &mut self,
-        alloc: Global,
-        shape: Shape,
-        text: &mut String,
-    ) -> Result<(), AllocError>
+    fn push_marking(&mut self, shape: Shape)
         requires some { 0 < shape.threads }
         requires few { shape.threads < 5 }
     {
-        let Shape {
-            threads,
-            collecting,
-            globals: _,
-        } = shape;
-        self.push_turns(alloc, threads, 200, threads, text)?;
-        text.push_str("order r@mark\n")?;
-        self.push_turns(alloc, threads, 200, threads, text)?;
-        for thread in 0..threads {
-            let line = format!(in alloc; "order {thread}*1000\n")?;
-            text.push_str(&line)?;
+        self.push_turns(shape.threads, 200, shape.threads);
+        self.push("order r@mark\n");
+        self.push_turns(shape.threads, 200, shape.threads);
+        for thread in 0..shape.threads {
+            self.push_number("order ", thread);
+            self.push("*1000\n");
         }
-        let line = format!(in alloc; "order c*{} {collecting}*100000\n", threads + 4)?;
-        text.push_str(&line)
+        self.push_number("order c*", shape.threads + 4);
+        self.push_number(" ", shape.collecting);
+        self.push("*100000\n");
     }
 
     /// So many order words of the first actors, of which the one with this number is the collector.
-    fn push_turns(
-        &mut self,
-        alloc: Global,
-        actors: u32,
-        words: u32,
-        collector: u32,
-        text: &mut String,
-    ) -> Result<(), AllocError>
+    fn push_turns(&mut self, actors: u32, words: u32, collector: u32)
         requires { 0 < actors }
     {
-        text.push_str("order")?;
+        self.push("order");
         for _ in 0..words {
             let actor = self.below(actors);
             let limit = if self.below(16) == 0 { 60 } else { 3 };
             let turns = 1 + self.below(limit);
-            let word = if actor == collector {
-                format!(in alloc; " c*{turns}")?
+            if actor == collector {
+                self.push(" c");
             } else {
-                format!(in alloc; " {actor}*{turns}")?
-            };
-            text.push_str(&word)?;
+                self.push_number(" ", actor);
+            }
+            self.push_number("*", turns);
         }
-        text.push_str("\n")
+        self.push("\n");
     }
 }

@@ -18,7 +18,7 @@ const BORN: u64 = 3;
 const MARKED: u64 = 7;
 
 /// What is found behind a first pause.
-#[derive(Clone, Copy, Debug)]
+#[derive(Clone, Copy)]
 pub enum Found {
     /// There was no pause.
     NoPause,
@@ -85,6 +85,65 @@ fn set_mark(marks: &mut [u64], address: u32, mark: u64) {
     }
 }
 
+/// Asks which objects are reachable now, and learns it.
+fn learn_reachable(
+    alloc: Global,
+    graph: &mut Graph,
+    wanted: &mut Wanted,
+) -> Result<(), AllocError> {
+    let mut reachable = vec![in alloc; false; graph.objects() as usize]?;
+    graph.reachable(&mut reachable);
+    wanted.pause(&reachable);
+    Ok(())
+}
+
+/// Applies an entry, and answers whether it was legal.
+fn applies(
+    alloc: Global,
+    graph: &mut Graph,
+    wanted: &mut Wanted,
+    entry: &Entry,
+) -> Result<bool, AllocError> {
+    if let Event::Pause(1) = entry.what {
+        learn_reachable(alloc, graph, wanted)?;
+    }
+    if graph.objects() == u32::MAX || !graph.apply(entry)? {
+        return Ok(false);
+    }
+    wanted.learn(entry)?;
+    Ok(true)
+}
+
+/// The marks that a history asks for, where it replays on an empty graph.
+fn replayed(
+    alloc: Global,
+    graph: &mut Graph,
+    addresses: usize,
+    history: &[Entry],
+) -> Result<Option<Wanted>, AllocError> {
+    let mut wanted = Wanted::open(alloc, addresses)?;
+    for entry in history {
+        if !applies(alloc, graph, &mut wanted, entry)? {
+            return Ok(None);
+        }
+    }
+    Ok(Some(wanted))
+}
+
+/// The marks that a history of a script asks for, where it replays.
+fn wanted_of(
+    alloc: Global,
+    script: &Script,
+    history: &[Entry],
+) -> Result<Option<Wanted>, AllocError>
+    requires good { IsGoodScript script.now }
+{
+    state_laws();
+    let mut graph = Graph::open(alloc, &script.sizes, &script.layouts)?;
+    let addresses = 1 + script.sizes.heap_words() as usize;
+    replayed(alloc, &mut graph, addresses, history)
+}
+
 /// Replays the history of a board, asks which objects are reachable at its first pause, and compares all
 /// mark words of the board with those that this asks for. No mark changes behind that pause, but where
 /// an object is born.
@@ -92,20 +151,9 @@ pub fn compare(alloc: Global, script: &Script, board: &Board<Page>) -> Result<Fo
     requires good { IsGoodScript script.now }
     requires heap { board.now.heap ≡ ground_of script.now }
 {
-    state_laws();
-    let mut graph = Graph::open(alloc, &script.sizes, &script.layouts)?;
-    let mut wanted = Wanted::open(alloc, 1 + script.sizes.heap_words() as usize)?;
-    for entry in board.history() {
-        if let Event::Pause(1) = entry.what {
-            let mut reachable = vec![in alloc; false; graph.objects() as usize]?;
-            graph.reachable(&mut reachable);
-            wanted.pause(&reachable);
-        }
-        if graph.objects() == u32::MAX || !graph.apply(entry)? {
-            return Ok(Found::Differs);
-        }
-        wanted.learn(entry)?;
-    }
+    let Some(wanted) = wanted_of(alloc, script, board.history())? else {
+        return Ok(Found::Differs);
+    };
     if !wanted.is_paused {
         return Ok(Found::NoPause);
     }

@@ -31,6 +31,17 @@ const ONE_CALL: &str =
 
 const NO_CALL: &str = "heap 1 64 0 32 0 2\nnames 0 0 0 0\nlayout fields ref\nthreads 1\n";
 
+/// The turns of the collector before an epoch is wanted: it looks at the mutator's state, and at the epoch wanted.
+const LOOKS: [Turn; 2] = [Turn::Moved, Turn::Idle(Place::Want, 0)];
+
+/// Those up to the stop, behind which it waits for the mutator.
+const COUNTS: [Turn; 4] = [
+    Turn::Moved,
+    Turn::Moved,
+    Turn::Moved,
+    Turn::Idle(Place::State(0), 1),
+];
+
 fn goes_in(board: Board<Page>) -> Board<Page>
     requires { MutatorAt Out None 0 board }
     ensures stands { MutatorAt Entering None 0 result }
@@ -140,7 +151,7 @@ fn opens(alloc: Global, script: &Script) -> Result<(Board<Page>, Collector), All
 }
 
 // One turn of the collector, unless it has ended.
-fn collects(board: Board<Page>, collector: &mut Collector) -> (Board<Page>, Turn)
+fn collects_once(board: Board<Page>, collector: &mut Collector) -> (Board<Page>, Turn)
     requires threads { board.heap.sizes.threads ≡ 1 }
     requires agrees { Agrees collector.old (stand_at 1 board) }
     ensures threads { result.0.heap.sizes.threads ≡ 1 }
@@ -157,13 +168,32 @@ fn collects(board: Board<Page>, collector: &mut Collector) -> (Board<Page>, Turn
     (seat.into_board(), turn)
 }
 
-// The place of an idle turn, by its number among those of a stop, and the word.
-fn idles(turn: Turn) -> Option<(u8, u64)> {
-    match turn {
-        Turn::Idle(Place::Want, word) => Some((0, word)),
-        Turn::Idle(Place::State(0), word) => Some((1, word)),
-        _ => None,
+// Whether a turn is this one, of those of a stop.
+fn is_so(turn: Turn, wanted: Turn) -> bool {
+    match (turn, wanted) {
+        (Turn::Moved, Turn::Moved) | (Turn::Done, Turn::Done) => true,
+        (Turn::Idle(Place::Want, word), Turn::Idle(Place::Want, told)) => word == told,
+        (Turn::Idle(Place::State(0), word), Turn::Idle(Place::State(0), told)) => word == told,
+        _ => false,
     }
+}
+
+// So many turns of the collector, and whether they are these.
+fn collects(board: Board<Page>, collector: &mut Collector, turns: &[Turn]) -> (Board<Page>, bool)
+    requires threads { board.heap.sizes.threads ≡ 1 }
+    requires agrees { Agrees collector.old (stand_at 1 board) }
+    ensures threads { result.0.heap.sizes.threads ≡ 1 }
+    ensures agrees { Agrees collector.new (stand_at 1 result.0) }
+    ensures mutator { (at : Position) (target : Option ℕ) (calls : ℕ) → MutatorAt at target calls board → MutatorAt at target calls result.0 }
+{
+    let mut board = board;
+    let mut are_so = true;
+    for wanted in turns {
+        let (next, turn) = collects_once(board, collector);
+        board = next;
+        are_so = are_so && is_so(turn, *wanted);
+    }
+    (board, are_so)
 }
 
 #[test]
@@ -175,45 +205,20 @@ fn a_collector_stops_a_mutator_and_stores_mark(rt: HostRuntime) -> Result<(), Al
     let board = goes_in(board);
     let (board, idle) = begins(board);
     assert!(rt; idle == 0);
-    let (board, turn_1) = collects(board, &mut collector);
-    let (board, turn_2) = collects(board, &mut collector);
-
+    let (board, looks) = collects(board, &mut collector, &LOOKS);
     let board = wants(board);
-    let (board, turn_3) = collects(board, &mut collector);
-    let (board, turn_4) = collects(board, &mut collector);
-    let (board, turn_5) = collects(board, &mut collector);
-    let (board, turn_6) = collects(board, &mut collector);
-
+    let (board, counts) = collects(board, &mut collector, &COUNTS);
     let (board, stop) = leaves(board);
     assert!(rt; stop == 9);
-    let (board, turn_7) = collects(board, &mut collector);
-
+    let (board, waits) = collects(board, &mut collector, &[Turn::Idle(Place::State(0), 1)]);
     let board = goes_out(board);
-    let (board, turn_8) = collects(board, &mut collector);
-    let (board, turn_9) = collects(board, &mut collector);
-    let (board, turn_10) = collects(board, &mut collector);
-    let (board, turn_11) = collects(board, &mut collector);
-
-    let turns = [
-        (turn_1, None),
-        (turn_2, Some((0, 0))),
-        (turn_3, None),
-        (turn_4, None),
-        (turn_5, None),
-        (turn_6, Some((1, 1))),
-        (turn_7, Some((1, 1))),
-        (turn_8, None),
-        (turn_9, None),
-        (turn_10, None),
-        (turn_11, None),
+    let (board, marks) = collects(board, &mut collector, &[Turn::Moved; 4]);
+    let words = [
+        board.word(Place::Phase),
+        board.word(Place::Want),
+        board.word(Place::Pending),
     ];
-    for (turn, idle) in turns {
-        assert!(rt; idles(turn) == idle);
-    }
-    let words = [(Place::Phase, 10), (Place::Want, 1), (Place::Pending, 3)];
-    for (place, word) in words {
-        assert!(rt; board.word(place) == word);
-    }
+    assert!(rt; looks && counts && waits && marks && words == [10, 1, 3]);
     Ok(())
 }
 
@@ -223,11 +228,10 @@ fn a_collector_ends_behind_the_mutators(rt: HostRuntime) -> Result<(), AllocErro
     let script = of_one(alloc, NO_CALL, 0).expect(&rt, "a script without calls");
     let (board, mut collector) = opens(alloc, &script)?;
     let board = ends(board);
-    let (board, _looked) = collects(board, &mut collector);
-    let (board, _chosen) = collects(board, &mut collector);
-    assert!(rt; !collector.has_ended());
-    let (board, turn) = collects(board, &mut collector);
-    assert!(rt; matches!(turn, Turn::Done) && collector.has_ended());
-    assert!(rt; board.word(Place::State(1)) == 2);
+    let (board, moved) = collects(board, &mut collector, &[Turn::Moved; 2]);
+    let goes_on = !collector.has_ended();
+    let (board, ended) = collects(board, &mut collector, &[Turn::Done]);
+    let word = board.word(Place::State(1));
+    assert!(rt; moved && goes_on && ended && collector.has_ended() && word == 2);
     Ok(())
 }

@@ -14,15 +14,32 @@ collects-board-requires-clause-agrees g c = c.begins-board.ensures.collector _ (
 pub wants-board-requires : goal.wants-board-requires
 wants-board-requires g c =
     let idle : c.begins-board.result.1 ≡ 0 = omega arith in
-    c.collects-board-2.ensures.mutator _ _ _ (c.collects-board.ensures.mutator _ _ _ (c.begins-board.ensures.stands idle))
+    c.collects-board.ensures.mutator _ _ _ (c.begins-board.ensures.stands idle)
+
+pub collects-board-requires-2-clause-agrees : goal.collects-board-requires-2-clause-agrees
+collects-board-requires-2-clause-agrees g c = c.wants-board.ensures.collector _ c.collects-board.ensures.agrees
 
 pub leaves-board-requires : goal.leaves-board-requires
-leaves-board-requires g c =
-    c.collects-board-6.ensures.mutator _ _ _
-    (c.collects-board-5.ensures.mutator _ _ _
-    (c.collects-board-4.ensures.mutator _ _ _ (c.collects-board-3.ensures.mutator _ _ _ c.wants-board.ensures.stands)))
+leaves-board-requires g c = c.collects-board-2.ensures.mutator _ _ _ c.wants-board.ensures.stands
+
+pub collects-board-requires-3-clause-agrees : goal.collects-board-requires-3-clause-agrees
+collects-board-requires-3-clause-agrees g c = c.leaves-board.ensures.collector _ c.collects-board-2.ensures.agrees
 
 pub goes_out-board-requires : goal.goes_out-board-requires
 goes_out-board-requires g c =
     let stop : c.leaves-board.result.1 ≡ 9 = omega arith in
-    c.collects-board-7.ensures.mutator _ _ _ (c.leaves-board.ensures.stands stop)
+    c.collects-board-3.ensures.mutator _ _ _ (c.leaves-board.ensures.stands stop)
+
+pub collects-board-requires-4-clause-agrees : goal.collects-board-requires-4-clause-agrees
+collects-board-requires-4-clause-agrees g c = c.goes_out-board.ensures.collector _ c.collects-board-3.ensures.agrees
+
+pub collects-board-requires-2-clause-threads : goal.collects-board-requires-2-clause-threads
+collects-board-requires-2-clause-threads g c = c.wants-board.ensures.stands.threads
+
+pub collects-board-requires-3-clause-threads : goal.collects-board-requires-3-clause-threads
+collects-board-requires-3-clause-threads g c =
+    let stop : c.leaves-board.result.1 ≡ 9 = omega arith in
+    (c.leaves-board.ensures.stands stop).threads
+
+pub collects-board-requires-4-clause-threads : goal.collects-board-requires-4-clause-threads
+collects-board-requires-4-clause-threads g c = c.goes_out-board.ensures.stands.threads

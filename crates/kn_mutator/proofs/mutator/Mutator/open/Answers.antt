@@ -14,7 +14,7 @@ use Rattle.kn_mutator.proofs.mutator.Mutator.open.Goals as goal
 pub invariant_of-result : goal.invariant_of-result
 invariant_of-result c =
     let s = c.args.script.now in
-    let heap = ground_read _ s c.script.view_is _ _ c.in_ok-copy_layouts.ensures c.deref.ensures.value in (
+    let heap = ground_read _ s c.script.view_is _ _ c.in_ok-layouts.ensures c.deref.ensures.value in (
       subst IsGoodGround (sym heap) (good_ground s c.args.i c.requires.good c.requires.thread),
       subst (λ (l : List Call). length l ≤ MOST_CALLS) (sym c.in_ok-calls.ensures) (few_calls s c.args.i c.requires.good c.requires.thread),
       omega (arith, c.in_ok-calls.calls.ok.0, c.len.ensures, c.in_ok-log.ensures.capacity),
@@ -23,12 +23,12 @@ invariant_of-result c =
 pub returns-clause-agrees : goal.returns-clause-agrees
 returns-clause-agrees c = λ here.
     let s : Scripted = c.args.script.now in
-    let heap = ground_read _ s c.script.view_is _ _ c.in_ok-copy_layouts.ensures c.deref.ensures.value in
+    let heap = ground_read _ s c.script.view_is _ _ c.in_ok-layouts.ensures c.deref.ensures.value in
     let calls : c.in_ok-calls.calls.items ≡ slice_index_or s.threads c.args.i [] = c.in_ok-calls.ensures in
     let task : c.first_task.result ≡ first_task (slice_index_or s.threads c.args.i []) =
     c.first_task.ensures ∙ ap first_task (c.deref-2.ensures.value ∙ calls) in
-    let alloc : c.in_ok-open.field-0 ≡ new_keeps s.sizes c.args.i =
-    c.in_ok-open.ensures ∙ ap (λ (s : Scripted). new_keeps s.sizes c.args.i) c.script.view_is in
+    let alloc : c.in_ok-allocator.allocator ≡ new_keeps s.sizes c.args.i =
+    c.in_ok-allocator.ensures ∙ ap (λ (s : Scripted). new_keeps s.sizes c.args.i) c.script.view_is in
     let marker : c.open-2.result ≡ new_kept s.sizes =
     c.open-2.ensures ∙ ap (λ (s : Scripted). new_kept s.sizes) c.script.view_is in
     let log : c.in_ok-log.log.items ≡ [] = c.in_ok-log.ensures.items in

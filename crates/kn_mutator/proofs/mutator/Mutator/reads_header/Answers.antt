@@ -13,8 +13,8 @@ load-word-requires g c =
     may_read_header m a here c.requires.agrees c.args.call None c.requires.task c.args.s c.requires.field.0 c.requires.field.1 c.requires.field.2
     refl c.local.result c.local.ensures
 
-pub judges-requires : goal.judges-requires
-judges-requires g c =
+pub judges-requires-clause-room : goal.judges-requires-clause-room
+judges-requires-clause-room g c =
     let t = g.T.Steps in
     let m = c.args.self.now in
     let a = t.stand c.args.steps.now in

@@ -1,11 +1,10 @@
-use Rattle.std.proofs.Common.{◌∙◌, ap}
+use Rattle.std.proofs.Common.{◌∙◌, ap, sym}
 use Rattle.kn_rule.specs.Outcomes.{view_answer}
-use Rattle.kn_view.specs.Parts.{Part, ground_of, view_with}
+use Rattle.kn_view.specs.Parts.{Part, ground_of}
 use Rattle.kn_view.proofs.known.Known.answer_to.Goals as goal
 
 pub returns : goal.returns
-returns c = λ owned log.
+returns c = λ v same.
     let z = ground_of c.args.sizes.now c.args.layouts.now in
-    let v = view_with z c.args.self.now owned log in
     c.answer_alone.ensures v
-    ∙ ap (λ (q : Part). view_answer z (record v { locals = q.locals }) c.args.call) c.self.view_is
+    ∙ ap (λ l. view_answer z (record v { locals = l }) c.args.call) (ap (λ (q : Part). q.locals) c.self.view_is ∙ sym same)

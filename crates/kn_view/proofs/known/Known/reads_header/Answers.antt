@@ -1,11 +1,8 @@
 use Rattle.std.proofs.Common.{◌∙◌, ap, sym, Some}
-use Rattle.kn_graph.specs.declared.calls.Reply.TheVariants as replies
-use Rattle.kn_rule.specs.declared.positions.Position.TheVariants.{Between}
 use Rattle.kn_rule.specs.Steps.{found}
 use Rattle.kn_rule.specs.Outcomes.{header_for_call, header_read, is_wanted}
 use Rattle.kn_view.specs.Parts.{view_with}
 use Rattle.kn_view.specs.Told.{told}
-use Rattle.kn_view.proofs.Answering.{answered}
 use Rattle.kn_view.proofs.Wanted.{wanted_same}
 use Rattle.kn_view.proofs.known.Known.reads_header.Goals as goal
 
@@ -15,8 +12,7 @@ returns-in-None-kind_told c = λ z p a page same owned log.
     let v = view_with z u owned log in
     let f = found c.args.word page in
     let call = c.args.call in
-    let part = record u { position = Between } in
-    answered z _ _ _ _ c.args.by call replies.NoField 0 part c.stands.ensures (c.answers.ensures z) owned log
+    c.refuses_field.ensures z call c.requires.calling owned log
     ∙ ap (told c.args.history.now) (sym (ap (header_for_call z c.args.by v p a f call) (sym c.field_of.ensures ∙ c.in-Some.is)
     ∙ ap (λ k. header_read z c.args.by v p a f call k (is_wanted z c.args.by v p a f k c.in-Some.wanted))
     (sym (c.kind_told.ensures z same) ∙ c.in-None-kind_told.is)))
@@ -28,8 +24,7 @@ returns-else-eq c = λ z p a page same owned log.
     let f = found c.args.word page in
     let call = c.args.call in
     let kind = c.in-Some-kind_told.kind in
-    let part = record u { position = Between } in
-    answered z _ _ _ _ c.args.by call replies.WrongKind 0 part c.stands-else-eq.ensures (c.answers-else-eq.ensures z) owned log
+    c.refuses_field-else-eq.ensures z call c.requires.calling owned log
     ∙ ap (told c.args.history.now) (sym (ap (header_for_call z c.args.by v p a f call) (sym c.field_of.ensures ∙ c.in-Some.is)
     ∙ (ap (λ k. header_read z c.args.by v p a f call k (is_wanted z c.args.by v p a f k c.in-Some.wanted))
     (sym (c.kind_told.ensures z same) ∙ c.in-Some-kind_told.is)

@@ -4,8 +4,8 @@ use Rattle.kn_view.specs.Parts.{Part}
 use Rattle.kn_view.proofs.Looked.{seen_at, refused_as_before}
 use Rattle.kn_view.proofs.known.Known.sees.Goals as goal
 
-pub returns : goal.returns
-returns c =
+pub returns-clause-seen : goal.returns-clause-seen
+returns-clause-seen c =
     let k = c.self.inside in
     let look = c.index_mut-look.result.now in
     (λ t. record {
