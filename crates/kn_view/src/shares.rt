@@ -147,6 +147,7 @@ pub fn held_in_set(sizes: &Sizes, set: u8, word: u64) -> Option<u32>
 
 /// The first reference field of the object with this header from a field on, and the number behind
 /// the last field where there is none.
+#[inline(never)]
 pub fn next_reference(layouts: &[Layout], header: u64, from: u32) -> u32
     ensures { (z : Ground) → z.layouts ≡ layouts.now → result ≡ next_ref z header from }
 {
@@ -196,6 +197,7 @@ pub fn at_place(doing: Doing, place: u32) -> Doing
 }
 
 /// The place reached was read, and holds this.
+#[inline(never)]
 pub fn arrived(layouts: &[Layout], work: Work, held: Option<u32>) -> Work
     requires { place work.doing + 1 < 2 ^ 32 }
     ensures { (z : Ground) (n : ℕ) → z.layouts ≡ layouts.now → result ≡ Rattle.kn_rule.specs.MarkSteps.arrived z work n held }
@@ -226,6 +228,7 @@ pub fn root_read(sizes: &Sizes, layouts: &[Layout], work: Work, word: u64) -> Wo
 }
 
 /// A place of a scanned cell was loaded.
+#[inline(always)]
 pub fn body_read(layouts: &[Layout], work: Work, word: u64) -> Work
     requires { IsCellRead work.doing word }
     ensures { (z : Ground) → z.layouts ≡ layouts.now → result ≡ Rattle.kn_rule.specs.MarkSteps.body_read z work word work.doing }
@@ -241,6 +244,7 @@ pub fn body_read(layouts: &[Layout], work: Work, word: u64) -> Work
 }
 
 /// A mark was loaded, or exchanged.
+#[inline(always)]
 pub fn child_after(layouts: &[Layout], work: Work, address: u32, act: Action, word: u64) -> Work
     requires owed { MayOwe work }
     requires near { IsChildNear work.doing work.child }
@@ -267,6 +271,7 @@ pub fn child_after(layouts: &[Layout], work: Work, address: u32, act: Action, wo
 }
 
 // The mark of the child was loaded.
+#[inline(always)]
 fn mark_loaded(layouts: &[Layout], work: Work, child: u32, word: u64) -> Work
     requires { place work.doing + 1 < 2 ^ 32 }
     ensures { (z : Ground) → z.layouts ≡ layouts.now → result ≡ Rattle.kn_rule.specs.MarkSteps.mark_loaded z work word child }
@@ -282,6 +287,7 @@ fn mark_loaded(layouts: &[Layout], work: Work, child: u32, word: u64) -> Work
 }
 
 // The child needs no more: the next place is reached.
+#[inline(never)]
 fn passed_child(layouts: &[Layout], work: Work) -> Work
     requires { place work.doing + 1 < 2 ^ 32 }
     ensures { (z : Ground) → z.layouts ≡ layouts.now → result ≡ Shares.passed_child work (place_behind z work.doing) }
@@ -294,6 +300,7 @@ fn passed_child(layouts: &[Layout], work: Work) -> Work
 }
 
 // The mark of the child was to be exchanged: where another caller was first, the unit held is owed.
+#[inline(always)]
 fn mark_swapped(layouts: &[Layout], work: Work, mark: u64, word: u64) -> Work
     requires owed { MayOwe work }
     requires near { place work.doing + 1 < 2 ^ 32 }
